@@ -4,7 +4,7 @@ use mathlib.Core.Logic.{_≢_, _⊎_, inl, inr}
 use mathlib.Core.Bool.{Bool, true, false, cond, not}
 use Prim.Native.Nat.{ℕ, zero, suc, _+_, _-_, _*_, _/_, _%_, _^_, _<_, _≤_}
 use native.Mathlib.Omega.{arith}
-use native.Mathlib.Nat.{mod-lt}
+use native.Mathlib.Nat.{mod-lt, div-eq-of-lt}
 use native.Mathlib.Numerals.{one-add}
 use native.Mathlib.Decide.{decLt}
 use lib.Bits.{bitXor, xor-comm, xor-assoc, xor-self, xor-zero-r, xor-shr, xor-mod, xor-lt}
@@ -83,6 +83,32 @@ module _ (n t i : ℕ) where
   flip₁ : bit (2 ^ t - 1) i ≡ 1 → under (2 ^ t - 1) i ≡ 0 → dark (meets n t) i ≡ not (dark n i)
   unfolding dark
   flip₁ e f = turned 1 0 e f ∙ bits-ind (λ a b. eqb (bitXor a 1) (bitXor b 0) ≡ not (eqb a b)) refl refl refl refl (bit n i) (under n i) (bit-lt n i) (under-lt n i)
+
+-- ---- a row's Gray code has the bits that differ from those under them: the white places
+
+doubled : (i j : ℕ) → under i j ≡ bit (i * 2) j
+unfolding under
+doubled i zero = unfold bit in omega arith
+doubled i (suc j) = ap (λ (x : ℕ). bit x j) (sym halved) ∙ sym (bit-suc (i * 2) j)
+  where
+    halved : i * 2 / 2 ≡ i
+    halved = omega arith
+
+pub gray : (i j : ℕ) → dark i j ≡ eqb (bit (bitXor i (i * 2)) j) 0
+unfolding dark
+gray i j =
+    bits-ind (λ a b. eqb a b ≡ eqb (bitXor a b) 0) refl refl refl refl (bit i j) (under i j) (bit-lt i j) (under-lt i j)
+    ∙ ap (λ (x : ℕ). eqb (bitXor (bit i j) x) 0) (doubled i j)
+    ∙ ap (λ (x : ℕ). eqb x 0) (sym (bit-xor i (i * 2) j))
+
+-- above a number's bits all places are dark
+pub dark-above : (t i j : ℕ) → i < 2 ^ t → t < j → dark i j ≡ true
+unfolding dark bit under
+dark-above t i zero l m = absurd (omega arith)
+dark-above t i (suc j) l m = ap₂ eqb (none (suc j) (omega arith)) (none j (omega arith))
+  where
+    none : (j : ℕ) → t ≤ j → bit i j ≡ 0
+    none j m = ap (λ (x : ℕ). x % 2) (div-eq-of-lt {n = i} {m = 2 ^ j} (omega (arith, pow-mono {i = t} {j = j} m)))
 
 -- ---- one line: it turns place t and place 0
 

@@ -1,7 +1,8 @@
 pub mod Numbers
-pub mod Widths
 pub mod Code
+pub mod Widths
 pub mod Neighbours
 pub mod Lines
 pub mod Laws
 pub mod Examples
+pub mod Numbered

@@ -1,5 +1,5 @@
 -- Which places a line sums, and which lines hold a place.
-use mathlib.Core.Bool.{Bool, _&&_, _||_}
+use mathlib.Core.Bool.{Bool, false, _&&_, _||_}
 use mathlib.Core.List.{List, [], _∷_, _++_, map}
 use Prim.Native.Nat.{ℕ, zero, suc}
 use lib.Bits.{bitXor}
@@ -15,6 +15,11 @@ takes right i t j = eqb t j || (dark i t && right t j)
 -- the sum of line n holds the place (i, j)
 unfoldable pub holds : ℕ → Rule → ℕ → ℕ → ℕ → Bool
 holds k right n i j = any k (λ t. eqb (meets n t) i && takes right i t j)
+
+-- whether n stands in a list
+unfoldable pub among : ℕ → List ℕ → Bool
+among n [] = false
+among n (m ∷ ms) = eqb m n || among n ms
 
 -- the lines that hold the place (i, j), by the columns that they meet in row i
 unfoldable pub linesOf : ℕ → Rule → ℕ → ℕ → List ℕ
