@@ -23,7 +23,7 @@ seven a b c d e f g = ap (λ x. bitXor (bitXor (bitXor (bitXor (bitXor a x) (bit
 alone : (x : ℕ) → bitXor (bitXor (bitXor x 0) 0) 0 ≡ x
 alone x = simp xor-zero-r
 
-pub examples : Examples
+pub examples : Examples published
 unfolding bit under dark meets only xorsum horizontal beside gives butterfly distance near published any takes holds those sumOf given spot sample
 examples =
     record {

@@ -9,7 +9,7 @@ use native.Mathlib.Decide.{decLt}
 use lib.Dec.{leb, ltb}
 use borrow.Author.Tests.{lt-true}
 use Rattle.std.proofs.shelf.Ways.{tells}
-use Rattle.code.specs.Neighbours.{Tournament, distance, near, published, OddWidths}
+use Rattle.code.specs.Neighbours.{Tournament, distance, near, published}
 
 -- two ways round add up to an odd number: one of them is the shorter
 shorter : (h a b : ℕ) → 1 ≤ a → 1 ≤ b → a + b ≡ h + h + 1 → (leb 1 a && leb a h) ≡ not (leb 1 b && leb b h)
@@ -51,7 +51,7 @@ own k j l = by-distance k j j 0 l l (ahead k j j (omega arith) l ∙ self j)
     self : (j : ℕ) → j - j ≡ 0
     self j = omega arith
 
-pub odd-widths : OddWidths
+pub odd-widths : (k : ℕ) → k % 2 ≡ 1 → Tournament k (published k)
 odd-widths k o =
     record {
       not-own = own k;

@@ -23,7 +23,3 @@ near k d = leb 1 d && leb d ((k - 1) / 2)
 -- The published rule: the right neighbours of a data column are the data columns that lie near before it.
 unfoldable pub published : ℕ → Rule
 published k j j' = (ltb j k && ltb j' k) && near k (distance k j j')
-
--- The published rule has the tournament law at every odd width.
-abbrev pub OddWidths : Type 0
-OddWidths = (k : ℕ) → k % 2 ≡ 1 → Tournament k (published k)

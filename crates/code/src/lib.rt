@@ -4,4 +4,6 @@ pub mod laws;
 pub mod lines;
 pub mod neighbours;
 pub mod places;
+#[cfg(test)]
+mod tests;
 pub mod widths;

@@ -26,7 +26,12 @@ pub fn is_taken(k: u32, row: Row, through: u32, column: u32) -> bool
 }
 
 // Adds the places that a line takes where it meets the data column `through` in this row.
-fn add_places(places: &mut Vec<(u32, u32)>, k: u32, row: Row, through: u32) -> Result<(), AllocError>
+fn add_places(
+    places: &mut Vec<(u32, u32)>,
+    k: u32,
+    row: Row,
+    through: u32,
+) -> Result<(), AllocError>
     ensures { λ r. ⌜ made r (λ _. vec-items (now (places .exit)) ≡ vec-items (now (places .entry)) ++ inRow (row .0) (those k (takes (published k) (row .0) through))) ⌝ }
 {
     for column in 0..k {

@@ -8,7 +8,11 @@ fn distance_before(k: u32, column: u32, other: u32) -> u32
     requires { ⌜ column < k ⌝ ∗ ⌜ other < k ⌝ }
     ensures { λ r. ⌜ r ≡ distance k column other ⌝ }
 {
-    if other <= column { column - other } else { column + (k - other) }
+    if other <= column {
+        column - other
+    } else {
+        column + (k - other)
+    }
 }
 
 // Whether `other` is a right neighbour of `column` at width k. Numbers that are no data columns have none and are none.

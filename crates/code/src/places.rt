@@ -19,7 +19,11 @@ fn cross(n: u32, column: u32) -> u32
     ensures within { λ r. ⌜ (column ≤ 32 → r ≡ meets n column) ⌝ }
     ensures beyond { λ r. ⌜ (32 < column → r ≡ meets n 32) ⌝ }
 {
-    if column < BITS { n ^ ((1 << column) - 1) } else { n ^ u32::MAX }
+    if column < BITS {
+        n ^ ((1 << column) - 1)
+    } else {
+        n ^ u32::MAX
+    }
 }
 
 impl Line {

@@ -5,6 +5,7 @@ ghost use Rattle.code.specs.Code.{rows};
 ghost use Rattle.code.specs.Widths.{isWidth};
 
 pub const LEAST_WIDTH: u32 = 3;
+
 pub const MOST_WIDTH: u32 = 11;
 
 // Whether a shelf may have k data columns.

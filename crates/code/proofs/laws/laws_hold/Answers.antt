@@ -4,6 +4,7 @@ use Rattle.code.proofs.Main.{any-two, any-two-blocks, half, solve-two, solve-o
 use Rattle.code.proofs.DarkHalf.{dark-half}
 use Rattle.code.proofs.Put.{put-rule}
 use Rattle.code.proofs.Published.{odd-widths}
+use Rattle.code.proofs.Examples.{examples}
 
 pub returns : need.returns
 returns c =
@@ -16,4 +17,5 @@ returns c =
       solve-two = solve-two;
       solve-one = solve-one;
       odd-widths = odd-widths;
+      examples = examples;
     }
