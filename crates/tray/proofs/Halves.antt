@@ -14,7 +14,7 @@ use Rattle.tray.specs.Meaning.{Meaning, verdict, tallied, stored, ifOk}
 use Rattle.tray.specs.SplitTrays.{beside, matching, splitOf, answerAt}
 
 -- the halves of a tray with a column match
-pub matched : (l r : Meaning) (c : ℕ) → c < splitOf l r .columns → matching l r ≡ true
+matched : (l r : Meaning) (c : ℕ) → c < splitOf l r .columns → matching l r ≡ true
 matched l r c h = ⊎-elim (λ e. e) (λ e. absurd (let k : c < 0 = rw e at h in omega arith)) (cases-bool (matching l r))
 
 -- what a call leaves of a half, put into the whole
@@ -27,7 +27,10 @@ pub ifOk-at : {X Z : Type 0} (answer told : Result X Fault) (c : ℕ) (x y : Z) 
 ifOk-at (Ok _) told c x y e = rw e refl
 ifOk-at (Err _) told c x y e = rw e refl
 
-module _ (l r : Meaning) (fit : matching l r ≡ true) (c : ℕ) where
+module _ (l r : Meaning) (c : ℕ) (b : c < splitOf l r .columns) where
+  fit : matching l r ≡ true
+  fit = matched l r c b
+
   -- the whole under other tallies, and with other blocks
   abbrev with-tally : (ℕ → ℕ) → Meaning
   with-tally t = record { columns = l .columns + r .columns; rows = l .rows; size = l .size; answers = beside l r .answers; block = beside l r .block; tally = t }
@@ -48,7 +51,7 @@ module _ (l r : Meaning) (fit : matching l r ≡ true) (c : ℕ) where
     pub block-left : (i : ℕ) → splitOf l r .block c i ≡ l .block c i
     block-left i = rw fit (grind (arith, tells))
 
-  module _ (w : ℕ) (e : w ≡ l .columns) (h : w ≤ c) (b : c < splitOf l r .columns) where
+  module _ (w : ℕ) (e : w ≡ l .columns) (h : w ≤ c) where
     pub verdict-right : (i n : ℕ) → answerAt (verdict r (c - w) i n) c ≡ verdict (splitOf l r) c i n
     verdict-right i n = let k : c < l .columns + r .columns = rw fit at b in rw fit (grind (arith, tells))
 

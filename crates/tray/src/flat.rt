@@ -50,13 +50,15 @@ impl<'a> Flat<'a> {
         ensures cells { λ r. ⌜ now (r .cells) ≡ now (cells .entry) ⌝ }
         ensures lender { λ r. ⌜ name (r .cells) ≡ name (cells .entry) ⌝ }
     {
+        let shape = Shape {
+            columns,
+            rows,
+            size,
+        };
+        let table = [Column::NEW; MAX_COLUMNS as usize];
         Flat {
-            shape: Shape {
-                columns,
-                rows,
-                size,
-            },
-            table: [Column::NEW; MAX_COLUMNS as usize],
+            shape,
+            table,
             cells,
         }
     }
@@ -65,7 +67,8 @@ impl<'a> Flat<'a> {
     pub fn switch(&mut self, column: u32, on: bool) -> Result<(), Fault>
         ensures value { λ r. ⌜ r ≡ asked (flatOf (now (self .entry))) column tt ⌝ }
         ensures after { λ r. ⌜ flatOf (now (self .exit)) ≡ ifOk r (switched (flatOf (now (self .entry))) column on) (flatOf (now (self .entry))) ⌝ }
-        ensures cells { λ _. ⌜ now (self .exit) .cells ≡ now (self .entry) .cells ⌝ }
+        ensures cells { λ _. ⌜ now (now (self .exit) .cells) ≡ now (now (self .entry) .cells) ⌝ }
+        ensures lender { λ _. ⌜ name (now (self .exit) .cells) ≡ name (now (self .entry) .cells) ⌝ }
     {
         self.shape().check_column(column)?;
         self.turn(column, on);
@@ -160,7 +163,8 @@ pub impl<'a> Tray for Flat<'a> as FlatTray {
         ensures value { λ r. ⌜ r ≡ verdict (flatOf (now (self .entry))) column row (length (now (buffer .entry))) ⌝ }
         ensures after { λ r. ⌜ flatOf (now (self .exit)) ≡ ifOk r (tallied (flatOf (now (self .entry))) column) (flatOf (now (self .entry))) ⌝ }
         ensures bytes { λ r. ⌜ now (buffer .exit) ≡ ifOk r (flatOf (now (self .entry)) .block column row) (now (buffer .entry)) ⌝ }
-        ensures cells { λ _. ⌜ now (self .exit) .cells ≡ now (self .entry) .cells ⌝ }
+        ensures cells { λ _. ⌜ now (now (self .exit) .cells) ≡ now (now (self .entry) .cells) ⌝ }
+        ensures lender { λ _. ⌜ name (now (self .exit) .cells) ≡ name (now (self .entry) .cells) ⌝ }
     {
         self.judge(column, row, buffer.len())?;
         let at = self.start(column, row);

@@ -1,4 +1,5 @@
 use mathlib.Core.Path.{_≡_, sym, _∙_, ap}
+use denote.Ref.{now, name}
 use lib.ListN.{length}
 use Rattle.tray.specs.FlatTrays.{flatOf}
 use Rattle.tray.proofs.Verdicts.{accepted}
@@ -17,5 +18,6 @@ returns c =
       value = sym was ∙ c .judge .ensures;
       after = ap flatOf counted ∙ read-counted t j (ok .0) (c .count .ensures .held);
       bytes = c .load .ensures ∙ (simp (ok .2, c .start-at .ensures .value) (sym (block-read t j (ok .0) i (ok .1))));
-      cells = ap (λ x. x .cells) counted;
+      cells = ap (λ x. now (x .cells)) counted;
+      lender = ap (λ x. name (x .cells)) counted;
     }
