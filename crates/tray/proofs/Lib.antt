@@ -1,0 +1,4 @@
+pub mod Verdicts
+mod Places
+mod FlatSteps
+mod Halves
