@@ -1,0 +1,10 @@
+pub mod Service
+pub mod Holding
+pub mod Hand
+pub mod Tallies
+pub mod Calls
+pub mod Runs
+pub mod Promises
+pub mod Law
+pub mod Pinned
+pub mod Possible
