@@ -4,10 +4,10 @@ use mathlib.Core.List.{[], _∷_}
 use Prim.Native.Nat.{ℕ}
 use lib.Bits.{bitXor, xor-assoc, xor-zero-r, xor-comm}
 use Rattle.code.specs.Numbers.{only, xorsum, any, those}
-use Rattle.code.specs.Code.{bit, under, dark, meets, horizontal, beside, gives, butterfly}
+use Rattle.code.specs.Code.{spot, bit, under, dark, meets, horizontal, beside, gives, butterfly}
 use Rattle.code.specs.Neighbours.{distance, near, published}
 use Rattle.code.specs.Lines.{takes, holds, sumOf}
-use Rattle.code.specs.Examples.{Examples, given, spot, sample}
+use Rattle.code.specs.Examples.{Examples, given, sample}
 
 -- what the sums compute to, without the zeros and brackets
 six : (a b c d e f : ℕ)

@@ -10,7 +10,7 @@ use lib.Dec.{eqb}
 use lib.Pow.{pow-lt, pow-pos}
 use borrow.Author.Tests.{eqb-true, eq-true, ne-false}
 use Rattle.code.specs.Numbers.{only, xorsum, any}
-use Rattle.code.specs.Code.{Blocks, Rule, rows, dark, meets, horizontal, beside, gives, butterfly}
+use Rattle.code.specs.Code.{Blocks, Rule, spot, rows, dark, meets, horizontal, beside, gives, butterfly}
 use Rattle.code.specs.Neighbours.{Tournament}
 use Rattle.code.specs.Lines.{takes, holds}
 use Rattle.code.specs.Laws.{changed, Changes, PutRule}
@@ -45,7 +45,7 @@ only-and true c x = refl
 only-and false c x = refl
 
 -- a sum of one number, taken where at most one test passes
-sum-only : (k x : ℕ) (c : ℕ → Bool) → ((a b : ℕ) → a < k → b < k → c a ≡ true → c b ≡ true → a ≡ b) → xorsum k (λ j. only (c j) x) ≡ only (any k c) x
+pub sum-only : (k x : ℕ) (c : ℕ → Bool) → ((a b : ℕ) → a < k → b < k → c a ≡ true → c b ≡ true → a ≡ b) → xorsum k (λ j. only (c j) x) ≡ only (any k c) x
 unfolding xorsum any only
 sum-only zero x c h = refl
 sum-only (suc k) x c h = go (c k) refl (sum-only k x c (λ a b al bl. h a b (omega arith) (omega arith)))
@@ -73,10 +73,6 @@ one-column n a b e =
 
     e′ : 2 ^ a - 1 ≡ 2 ^ b - 1
     e′ = cancel (2 ^ a - 1) (2 ^ b - 1) e
-
--- x at the place (i, j), and nothing elsewhere
-unfoldable pub spot : ℕ → ℕ → ℕ → Blocks
-spot i j x i' j' = only (eqb i' i && eqb j' j) x
 
 -- the parts of what a place gives, by cases
 mix : (e j d d′ r : Bool) (x : ℕ) → (e ≡ true → d ≡ d′) → (j ≡ true → r ≡ false)
@@ -118,7 +114,7 @@ module _ (k : ℕ) (right : Rule) (law : Tournament k right) (i j x : ℕ) (jk :
       ∙ mix (eqb u i) (eqb j′ j) (dark u j′) (dark i j′) (right j′ j) x (λ e. ap (λ v. dark v j′) (eqb-true u i e))
       (λ e. ap (λ t. right t j) (eqb-true j′ j e) ∙ law .not-own j jk)
 
-  line-spot : (n : ℕ) → butterfly k right (spot i j x) n ≡ only (holds k right n i j) x
+  pub line-spot : (n : ℕ) → butterfly k right (spot i j x) n ≡ only (holds k right n i j) x
   unfolding butterfly holds
   line-spot n =
       sum-same k (λ j′. gives k right (spot i j x) (meets n j′) j′) (λ j′. only (passes j′) x) (λ j′ l. gives-spot (meets n j′) j′)

@@ -2,7 +2,7 @@
 -- and a rule of right neighbours.
 -- Rows and lines are numbers below `rows k`. The data columns are those below k; column k is the horizontal parity
 -- and holds a sum for each row; column k + 1 is the butterfly parity and holds a sum for each line.
-use mathlib.Core.Bool.{Bool, cond}
+use mathlib.Core.Bool.{Bool, cond, _&&_}
 use Prim.Native.Nat.{ℕ, zero, suc, _-_, _/_, _%_, _^_}
 use lib.Bits.{bitXor}
 use lib.Dec.{eqb, ltb}
@@ -11,6 +11,10 @@ use Rattle.code.specs.Numbers.{only, xorsum}
 -- what the data columns hold: `D i j` stands in row i of column j
 abbrev pub Blocks : Type 0
 Blocks = ℕ → ℕ → ℕ
+
+-- x at the place (i, j), in row i of column j, and nothing elsewhere
+unfoldable pub spot : ℕ → ℕ → ℕ → Blocks
+spot i j x i' j' = only (eqb i' i && eqb j' j) x
 
 -- `right j j'`: column j' is a right neighbour of column j
 abbrev pub Rule : Type 0
@@ -28,7 +32,7 @@ unfoldable pub under : ℕ → ℕ → ℕ
 under i zero = 0
 under i (suc j) = bit i j
 
--- the place (i, j), in row i of column j, is dark; otherwise it is white
+-- the place (i, j) is dark; otherwise it is white
 unfoldable pub dark : ℕ → ℕ → Bool
 dark i j = eqb (bit i j) (under i j)
 

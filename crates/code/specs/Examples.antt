@@ -1,12 +1,11 @@
 -- Worked examples of the rules at the widths 3 and 5, under a rule of right neighbours for each width.
 use mathlib.Core.Path.{_≡_}
-use mathlib.Core.Bool.{Bool, not, cond, _&&_}
+use mathlib.Core.Bool.{not}
 use mathlib.Core.List.{List, [], _∷_, map}
 use Prim.Native.Nat.{ℕ}
-use lib.Dec.{eqb}
 use lib.ListN.{getD}
 use Rattle.code.specs.Numbers.{those}
-use Rattle.code.specs.Code.{Blocks, Rule, dark, meets, horizontal, butterfly}
+use Rattle.code.specs.Code.{Blocks, Rule, spot, dark, meets, horizontal, butterfly}
 use Rattle.code.specs.Lines.{holds, sumOf}
 
 -- data given column by column
@@ -16,10 +15,6 @@ given cols i j = getD (getD cols j []) i 0
 -- three columns of four blocks of one byte
 unfoldable pub sample : Blocks
 sample = given ((0x01 ∷ 0x02 ∷ 0x04 ∷ 0x08 ∷ []) ∷ (0x10 ∷ 0x20 ∷ 0x40 ∷ 0x80 ∷ []) ∷ (0x03 ∷ 0x05 ∷ 0x09 ∷ 0x11 ∷ []) ∷ [])
-
--- x at the place (i, j), and nothing elsewhere
-unfoldable pub spot : ℕ → ℕ → ℕ → Blocks
-spot i j x i′ j′ = cond (eqb i i′ && eqb j j′) x 0
 
 pub record Examples (rule : ℕ → Rule) : Type 0 where
   -- width 3: the right neighbour of column 0
