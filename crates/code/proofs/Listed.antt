@@ -126,13 +126,13 @@ among-those n (suc m) g f =
     go false true h = refl
     go false false h = refl
 
-any-same : (m : ℕ) (f g : ℕ → Bool) → ((t : ℕ) → f t ≡ g t) → any m f ≡ any m g
+pub any-same : (m : ℕ) (f g : ℕ → Bool) → ((t : ℕ) → f t ≡ g t) → any m f ≡ any m g
 unfolding any
 any-same zero f g h = refl
 any-same (suc m) f g h = ap₂ (λ a b. a || b) (any-same m f g h) (h m)
 
 -- line n meets column t in row i just where row i meets column t in line n
-turned : (n i t : ℕ) → eqb (meets n t) i ≡ eqb (meets i t) n
+pub turned : (n i t : ℕ) → eqb (meets n t) i ≡ eqb (meets i t) n
 turned n i t = go (eqb (meets n t) i) refl
   where
     go : (b : Bool) → eqb (meets n t) i ≡ b → eqb (meets n t) i ≡ eqb (meets i t) n

@@ -17,12 +17,12 @@ use Rattle.code.specs.Laws.{changed, Changes, PutRule}
 use Rattle.code.proofs.Xor.{xor-eq-zero, xor-zero-eq, only-zero, sum-same, sum-one}
 use Rattle.code.proofs.Linear.{difference, horizontal-xor, butterfly-xor}
 
-any-none : (k : ℕ) (c : ℕ → Bool) → ((j : ℕ) → j < k → c j ≡ false) → any k c ≡ false
+pub any-none : (k : ℕ) (c : ℕ → Bool) → ((j : ℕ) → j < k → c j ≡ false) → any k c ≡ false
 unfolding any
 any-none zero c h = refl
 any-none (suc k) c h = ap₂ (λ a b. a || b) (any-none k c (λ j l. h j (omega arith))) (h k (omega arith))
 
-not-so : (b : Bool) → (b ≡ true → ⊥) → b ≡ false
+pub not-so : (b : Bool) → (b ≡ true → ⊥) → b ≡ false
 not-so true h = absurd (h refl)
 not-so false h = refl
 
