@@ -6,7 +6,7 @@ use Prim.Native.Nat.{ℕ, _+_, _-_, _*_, _<_, _≤_}
 use lib.Bits.{bitXor}
 use lib.Dec.{eqb, ltb, leb}
 use lib.ListN.{length, getD}
-use Rattle.code.specs.Numbers.{only}
+use Rattle.code.specs.Numbers.{only, xorsum}
 use Rattle.code.specs.Code.{Blocks, Rule, spot, rows, meets, horizontal, butterfly}
 use Rattle.code.specs.Lines.{takes, holds}
 use Rattle.code.specs.Widths.{isWidth}
@@ -58,6 +58,14 @@ one i j x b = spot i j (getD x b 0)
 unfoldable pub passes : Rule → ℕ → ℕ → ℕ → ℕ → Bool
 passes right i j skip t = not (eqb t skip) && takes right i t j
 
+-- what byte b of line n gets of the block x of the place (i, j) by the columns below t
+unfoldable pub passed : Rule → ℕ → ℕ → ℕ → List ℕ → ℕ → ℕ → ℕ → ℕ
+passed right i j skip x t b n = xorsum t (λ s. only (eqb n (meets i s) && passes right i j skip s) (getD x b 0))
+
 -- line n holds the place (i, j), and it is not the line through the place of the column to skip
 unfoldable pub holdsBut : ℕ → Rule → ℕ → ℕ → ℕ → ℕ → Bool
 holdsBut k right i j skip n = holds k right n i j && not (eqb n (meets i skip))
+
+-- what byte b of line n gets of it by all columns
+unfoldable pub toLines : ℕ → Rule → ℕ → ℕ → ℕ → List ℕ → ℕ → ℕ → ℕ
+toLines k right i j skip x b n = only (holdsBut k right i j skip n) (getD x b 0)

@@ -8,7 +8,7 @@ ghost use Rattle.code.specs.Numbers.{only};
 ghost use Rattle.code.specs.Code.{rows, meets};
 ghost use Rattle.code.specs.Neighbours.{published};
 ghost use Rattle.code.specs.Widths.{isWidth};
-ghost use Rattle.shelf.specs.Slots.{Room, Plus, nothing, Summed, one, passes, holdsBut};
+ghost use Rattle.shelf.specs.Slots.{Room, Plus, nothing, Summed, one, passes, toLines};
 use crate::slots::add;
 use code::lines::is_taken;
 use code::places::Line;
@@ -43,7 +43,7 @@ fn add_through(work: &mut [u8], k: u32, row: Row, column: u32, skip: u32, throug
 // Adds a block of the place in `column` to every line that holds it, but for the one that meets the column `skip` in this row.
 pub(crate) fn add_to_lines(work: &mut [u8], k: u32, row: Row, column: u32, skip: u32, block: &[u8])
     requires { ⌜ Room k (length (now block)) (now work) ⌝ ∗ ⌜ row .0 < rows k ⌝ }
-    ensures { λ _. ⌜ Plus k (length (now (block .entry))) (now (work .entry)) nothing (λ b n. only (holdsBut k (published k) (row .0) column skip n) (getD (now (block .entry)) b 0)) (now (work .exit)) ⌝ }
+    ensures { λ _. ⌜ Plus k (length (now (block .entry))) (now (work .entry)) nothing (toLines k (published k) (row .0) column skip (now (block .entry))) (now (work .exit)) ⌝ }
 {
     for through in 0..k {
         add_through(work, k, row, column, skip, through, block);

@@ -1,0 +1,71 @@
+-- What is added to the slots of rows and lines.
+use mathlib.Core.Path.{_≡_, refl, sym, ap, ap₂, _∙_}
+use mathlib.Core.Logic.{_≢_}
+use mathlib.Core.Bool.{Bool, true, false, _&&_}
+use mathlib.Core.List.{List}
+use Prim.Native.Nat.{ℕ, _+_, _*_, _<_, _≤_}
+use native.Mathlib.Omega.{arith}
+use native.Mathlib.Nat.{mul-le-mul-right}
+use native.Mathlib.Decide.{ℕ-discrete}
+use lib.Bits.{bitXor, xor-assoc, xor-zero-r}
+use lib.Dec.{eqb}
+use lib.ListN.{length, getD}
+use borrow.Author.Tests.{eq-true, ne-false, eqb-true, eqb-false}
+use Rattle.code.specs.Numbers.{only}
+use Rattle.code.specs.Code.{rows}
+use Rattle.code.proofs.Xor.{only-false}
+use Rattle.shelf.specs.Slots.{slot, rowSlot, lineSlot, Room, SlotAdded, Plus, nothing}
+
+-- a slot lies in the work space
+pub has-slot : (k size : ℕ) (work : List ℕ) → Room k size work → (s : ℕ) → s < rows k + rows k → (s + 1) * size ≤ length work
+has-slot k size work room s l = omega (arith, mul-le-mul-right {m = s + 1} {n = 2 * rows k} size (omega arith), room .large)
+
+pub room-kept : (k size : ℕ) (was work : List ℕ) → Room k size was → length work ≡ length was → Room k size work
+room-kept k size was work room e = record { width = room .width; large = omega (arith, room .large) }
+
+-- slots behind the rows are told apart as their lines are
+shifted : (r a b : ℕ) → eqb (r + a) (r + b) ≡ eqb a b
+shifted r a b =
+    elim (ℕ-discrete a b) [
+      | yes e ↦ sym (eq-true (r + a) (r + b) (omega arith)) ∙ eq-true a b e
+      | no n ↦ sym (ne-false (r + a) (r + b) (omega arith)) ∙ ne-false a b n
+    ]
+
+module _ (k size : ℕ) (was : List ℕ) where
+  pub plus-none : Plus k size was nothing nothing was
+  plus-none = record { row = λ b r _ _. sym (xor-zero-r (rowSlot size was b r)); line = λ b n _ _. sym (xor-zero-r (lineSlot k size was b n)) }
+
+  pub plus-same : (g f g′ f′ : ℕ → ℕ → ℕ) (after : List ℕ) → ((b r : ℕ) → b < size → r < rows k → g b r ≡ g′ b r) → ((b n : ℕ) → b < size → n < rows k → f b n ≡ f′ b n)
+      → Plus k size was g f after → Plus k size was g′ f′ after
+  plus-same g f g′ f′ after eg ef p =
+      record {
+        row = λ b r bl rl. p .row b r bl rl ∙ ap (bitXor (rowSlot size was b r)) (eg b r bl rl);
+        line = λ b n bl nl. p .line b n bl nl ∙ ap (bitXor (lineSlot k size was b n)) (ef b n bl nl);
+      }
+
+  pub plus-plus : (g f g′ f′ : ℕ → ℕ → ℕ) (mid after : List ℕ) → Plus k size was g f mid → Plus k size mid g′ f′ after
+      → Plus k size was (λ b r. bitXor (g b r) (g′ b r)) (λ b n. bitXor (f b n) (f′ b n)) after
+  plus-plus g f g′ f′ mid after p q =
+      record {
+        row = λ b r bl rl. q .row b r bl rl ∙ ap (λ x. bitXor x (g′ b r)) (p .row b r bl rl) ∙ xor-assoc (rowSlot size was b r) (g b r) (g′ b r);
+        line = λ b n bl nl. q .line b n bl nl ∙ ap (λ x. bitXor x (f′ b n)) (p .line b n bl nl) ∙ xor-assoc (lineSlot k size was b n) (f b n) (f′ b n);
+      }
+
+  -- a block was added to one row's slot, or to one line's
+  module _ (x after : List ℕ) where
+    pub plus-row : (i : ℕ) → i < rows k → SlotAdded size was i x after → Plus k size was (λ b r. only (eqb r i) (getD x b 0)) nothing after
+    plus-row i l h =
+        record {
+          row = λ b r bl rl. h r b bl;
+          line = λ b n bl nl.
+              h (rows k + n) b bl
+              ∙ ap (bitXor (lineSlot k size was b n)) (only-false (eqb (rows k + n) i) (getD x b 0) (sym (ne-false (rows k + n) i (omega arith))));
+        }
+
+    pub plus-line : (l : ℕ) → SlotAdded size was (rows k + l) x after → Plus k size was nothing (λ b n. only (eqb n l) (getD x b 0)) after
+    plus-line l h =
+        record {
+          row = λ b r bl rl.
+              h r b bl ∙ ap (bitXor (rowSlot size was b r)) (only-false (eqb r (rows k + l)) (getD x b 0) (sym (ne-false r (rows k + l) (omega arith))));
+          line = λ b n bl nl. h (rows k + n) b bl ∙ ap (λ t. bitXor (lineSlot k size was b n) (only t (getD x b 0))) (shifted (rows k) n l);
+        }
