@@ -1,3 +1,4 @@
 pub mod Indices
 pub mod Adding
 pub mod Holding
+pub mod Gathering

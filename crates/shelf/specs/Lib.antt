@@ -1,1 +1,3 @@
+pub mod Blocks
 pub mod Slots
+pub mod Reading

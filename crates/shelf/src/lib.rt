@@ -1,2 +1,4 @@
+mod blocks;
+mod gather;
 mod slots;
 mod sums;

@@ -1,0 +1,150 @@
+-- Reads one after another, and the sums that they add up to.
+use mathlib.Core.Path.{_≡_, refl, sym, ap, ap₂, _∙_, fun-ext, subst}
+use mathlib.Core.Logic.{_≢_}
+use mathlib.Core.Bool.{Bool, true, false, not, cond, _&&_}
+use mathlib.Core.List.{List}
+use Prim.Native.Nat.{ℕ, _+_, _%_, _^_, _<_, _≤_}
+use native.Mathlib.Omega.{arith}
+use native.Mathlib.Decide.{ℕ-discrete, decLt}
+use lib.Bits.{bitXor, xor-zero-r}
+use lib.Dec.{eqb, ltb}
+use lib.ListN.{getD}
+use borrow.Author.Tests.{eq-true, ne-false, lt-true, le-false, eqb-true, eqb-false}
+use Rattle.tray.specs.Meaning.{Meaning, Wraps, tallied}
+use Rattle.code.specs.Numbers.{only, xorsum}
+use Rattle.code.specs.Code.{Blocks, Rule, spot, rows, meets, horizontal, butterfly, gives, beside}
+use Rattle.code.proofs.Xor.{sum-none, only-zero}
+use Rattle.code.proofs.Linear.{difference, horizontal-same, butterfly-same, horizontal-xor, butterfly-xor}
+use Rattle.code.proofs.Lost.{beside-none, gives-none}
+use Rattle.law.specs.Service.{Columns}
+use Rattle.law.specs.Holding.{held}
+use Rattle.shelf.specs.Slots.{Plus, nothing, Summed, one}
+use Rattle.shelf.specs.Reading.{afterReads, times, part, served}
+use Rattle.shelf.proofs.Adding.{plus-none, plus-same, plus-plus}
+
+-- ---- tallies
+
+tallies : Meaning → (ℕ → ℕ) → Meaning
+tallies m t = record { columns = m .columns; rows = m .rows; size = m .size; answers = m .answers; block = m .block; tally = t }
+
+-- the same counts leave the same tray
+pub reads-same : (m : Meaning) (f g : ℕ → ℕ) → ((c : ℕ) → f c ≡ g c) → afterReads m f ≡ afterReads m g
+reads-same m f g e = ap (afterReads m) (fun-ext e)
+
+pub reads-none : (m : Meaning) → Wraps m → m ≡ afterReads m (λ _. 0)
+unfolding tallies
+reads-none m w = ap (tallies m) (fun-ext (λ c. small (m .tally c) (w c)))
+  where
+    small : (t : ℕ) → t < 2 ^ 32 → t ≡ (t + 0) % 2 ^ 32
+    small t l = omega arith
+
+-- one more read
+pub reads-more : (m : Meaning) (f : ℕ → ℕ) (j : ℕ) → tallied (afterReads m f) j ≡ afterReads m (λ c. f c + times j 1 c)
+unfolding tallies
+reads-more m f j = ap (tallies m) (fun-ext at)
+  where
+    at : (c : ℕ) → cond (eqb c j) (((m .tally j + f j) % 2 ^ 32 + 1) % 2 ^ 32) ((m .tally c + f c) % 2 ^ 32) ≡ (m .tally c + (f c + cond (eqb c j) 1 0)) % 2 ^ 32
+    at c =
+        elim (ℕ-discrete c j) [
+          | yes e ↦
+              ap (λ b. cond b (((m .tally j + f j) % 2 ^ 32 + 1) % 2 ^ 32) ((m .tally c + f c) % 2 ^ 32)) (sym (eq-true c j e))
+              ∙ go (m .tally j) (f j)
+              ∙ ap (λ x. (m .tally x + (f x + 1)) % 2 ^ 32) (sym e)
+              ∙ ap (λ b. (m .tally c + (f c + cond b 1 0)) % 2 ^ 32) (eq-true c j e)
+          | no n ↦
+              ap (λ b. cond b (((m .tally j + f j) % 2 ^ 32 + 1) % 2 ^ 32) ((m .tally c + f c) % 2 ^ 32)) (sym (ne-false c j n))
+              ∙ stay (m .tally c) (f c)
+              ∙ ap (λ b. (m .tally c + (f c + cond b 1 0)) % 2 ^ 32) (ne-false c j n)
+        ]
+      where
+        go : (t n : ℕ) → ((t + n) % 2 ^ 32 + 1) % 2 ^ 32 ≡ (t + (n + 1)) % 2 ^ 32
+        go t n = omega arith
+
+        stay : (t n : ℕ) → (t + n) % 2 ^ 32 ≡ (t + (n + 0)) % 2 ^ 32
+        stay t n = omega arith
+
+pub reads-reads : (m : Meaning) (f g : ℕ → ℕ) → afterReads (afterReads m f) g ≡ afterReads m (λ c. f c + g c)
+unfolding tallies
+reads-reads m f g = ap (tallies m) (fun-ext (λ c. go (m .tally c) (f c) (g c)))
+  where
+    go : (t n l : ℕ) → ((t + n) % 2 ^ 32 + l) % 2 ^ 32 ≡ (t + (n + l)) % 2 ^ 32
+    go t n l = omega arith
+
+times-none : (j c : ℕ) → times j 0 c ≡ 0
+times-none j c = go (eqb c j)
+  where
+    go : (b : Bool) → cond {A = ℕ} b 0 0 ≡ 0
+    go true = refl
+    go false = refl
+
+times-more : (j n c : ℕ) → times j n c + times j 1 c ≡ times j (n + 1) c
+times-more j n c = go (eqb c j)
+  where
+    go : (b : Bool) → cond b n 0 + cond b 1 0 ≡ cond b (n + 1) 0
+    go true = refl
+    go false = refl
+
+-- the reads of one column, one by one
+pub column-none : (m : Meaning) (j : ℕ) → Wraps m → m ≡ afterReads m (times j 0)
+column-none m j w = reads-none m w ∙ reads-same m (λ _. 0) (times j 0) (λ c. sym (times-none j c))
+
+pub column-more : (m m′ : Meaning) (j n : ℕ) → m′ ≡ afterReads m (times j n) → tallied m′ j ≡ afterReads m (times j (n + 1))
+column-more m m′ j n e = ap (λ x. tallied x j) e ∙ reads-more m (times j n) j ∙ reads-same m _ _ (times-more j n)
+
+-- ---- sums
+
+module _ (k : ℕ) (right : Rule) (size : ℕ) (was : List ℕ) where
+  -- nothing was added
+  pub sums-none : (E : ℕ → Blocks) → ((b i c : ℕ) → E b i c ≡ 0) → Summed k right size was E was
+  unfolding horizontal butterfly
+  sums-none E z =
+      plus-same k size was nothing nothing (λ b. horizontal k (E b)) (λ b. butterfly k right (E b)) was
+      (λ b r _ _. sym (sum-none k (E b r) (λ j _. z b r j)))
+      (λ b n _ _. sym (sum-none k (λ j. gives k right (E b) (meets n j) j) (λ j _. gives-none k right (E b) (meets n j) j (z b (meets n j) j) (λ _. beside-none k right (E b) (meets n j) j (λ j′ _ _. z b (meets n j) j′)))))
+      (plus-none k size was)
+
+  -- the sums of one data after those of another are the sums of both together
+  pub sums-more : (E F G : ℕ → Blocks) (mid after : List ℕ)
+      → ((b i c : ℕ) → b < size → i < rows k → c < k → bitXor (E b i c) (F b i c) ≡ G b i c)
+      → Summed k right size was E mid → Summed k right size mid F after → Summed k right size was G after
+  sums-more E F G mid after e p q =
+      plus-same k size was _ _ (λ b. horizontal k (G b)) (λ b. butterfly k right (G b)) after
+      (λ b r bl rl. sym (horizontal-xor k right (E b) (F b) r) ∙ horizontal-same k right (difference (E b) (F b)) (G b) (λ i c il cl. e b i c bl il cl) r rl)
+      (λ b n bl nl. sym (butterfly-xor k right (E b) (F b) n) ∙ butterfly-same k right (difference (E b) (F b)) (G b) (λ i c il cl. e b i c bl il cl) n nl)
+      (plus-plus k size was (λ b. horizontal k (E b)) (λ b. butterfly k right (E b)) (λ b. horizontal k (F b)) (λ b. butterfly k right (F b)) mid after p q)
+
+-- one more row of a column
+pub part-none : (j i c : ℕ) (M : Blocks) → part j 0 M i c ≡ 0
+unfolding only
+part-none j i c M = ap (λ b. cond (eqb c j && b) (M i c) 0) (sym (le-false i 0 (omega arith))) ∙ go (eqb c j)
+  where
+    go : (b : Bool) → cond (b && false) (M i c) 0 ≡ 0
+    go true = refl
+    go false = refl
+
+pub part-more : (j n i c : ℕ) (M : Blocks) → bitXor (part j n M i c) (spot n j (M n j) i c) ≡ part j (n + 1) M i c
+unfolding only spot
+part-more j n i c M = go (eqb c j) refl (eqb i n) refl
+  where
+    go : (s : Bool) → eqb c j ≡ s → (t : Bool) → eqb i n ≡ t → bitXor (only (s && ltb i n) (M i c)) (only (t && s) (M n j)) ≡ only (s && ltb i (n + 1)) (M i c)
+    go false e false f = refl
+    go false e true f = refl
+    go true e true f =
+        ap (λ b. bitXor (cond b (M i c) 0) (M n j)) (sym (le-false i n (omega (arith, eqb-true i n f))))
+        ∙ ap₂ M (sym (eqb-true i n f)) (sym (eqb-true c j e))
+        ∙ ap (λ b. cond b (M i c) 0) (lt-true i (n + 1) (omega (arith, eqb-true i n f)))
+    go true e false f =
+        xor-zero-r (cond (ltb i n) (M i c) 0)
+        ∙ elim (decLt i n) [
+          | yes l ↦ ap (λ b. cond b (M i c) 0) (sym (lt-true i n l) ∙ lt-true i (n + 1) (omega arith))
+          | no h ↦ ap (λ b. cond b (M i c) 0) (sym (le-false i n (omega arith)) ∙ le-false i (n + 1) (omega (arith, eqb-false i n f)))
+        ]
+
+-- the block of that row, as it was read
+pub row-added : (k : ℕ) (right : Rule) (size : ℕ) (was mid after : List ℕ) (m : Meaning) (j n len : ℕ) (x : List ℕ) → len ≡ size → x ≡ m .block j n
+    → Summed k right size was (λ b. part j n (held m b)) mid → Summed k right len mid (one n j x) after
+    → Summed k right size was (λ b. part j (n + 1) (held m b)) after
+row-added k right size was mid after m j n len x e f p q =
+    sums-more k right size was (λ b. part j n (held m b)) (one n j x) (λ b. part j (n + 1) (held m b)) mid after
+    (λ b i c _ _ _. ap (λ y. bitXor (part j n (held m b) i c) (spot n j (getD y b 0) i c)) f ∙ part-more j n i c (held m b))
+    p (subst (λ s. Summed k right s mid (one n j x) after) e q)
