@@ -1,3 +1,4 @@
 pub mod Blocks
+pub mod Missing
 pub mod Slots
 pub mod Reading

@@ -27,6 +27,10 @@ pub record Room (k size : ℕ) (work : List ℕ) : Type 0 where
   pub width : isWidth k ≡ true
   pub large : 2 * rows k * size ≤ length work
 
+-- the first n bytes from `at` on are zeros, as a loop goes
+abbrev pub ZeroUpTo : List ℕ → ℕ → ℕ → List ℕ → Type 0
+ZeroUpTo was at n after = (k : ℕ) → getD after k 0 ≡ cond (leb at k && ltb k (at + n)) 0 (getD was k 0)
+
 -- the first n bytes of a block added from `at` on, as a loop goes
 abbrev pub AddedUpTo : List ℕ → ℕ → List ℕ → ℕ → List ℕ → Type 0
 AddedUpTo was at block n after =
@@ -36,6 +40,19 @@ AddedUpTo was at block n after =
 abbrev pub SlotAdded : ℕ → List ℕ → ℕ → List ℕ → List ℕ → Type 0
 SlotAdded size was s block after =
     (t b : ℕ) → b < size → slot size after t b ≡ bitXor (slot size was t b) (only (eqb t s) (getD block b 0))
+
+-- a block is what slot s holds
+abbrev pub IsSlot : ℕ → List ℕ → ℕ → List ℕ → Type 0
+IsSlot size work s block = (b : ℕ) → b < size → getD block b 0 ≡ slot size work s b
+
+-- slot s was set: its byte b is `f b`
+abbrev pub SlotSet : ℕ → List ℕ → ℕ → (ℕ → ℕ) → List ℕ → Type 0
+SlotSet size was s f after = (t b : ℕ) → b < size → slot size after t b ≡ cond (eqb t s) (f b) (slot size was t b)
+
+-- the slots from `first` on, n of them, were filled: byte b of the t-th of them with `f t b`
+abbrev pub Filled : ℕ → List ℕ → ℕ → ℕ → (ℕ → ℕ → ℕ) → List ℕ → Type 0
+Filled size was first n f after =
+    (t b : ℕ) → b < size → slot size after t b ≡ cond (leb first t && ltb t (first + n)) (f (t - first) b) (slot size was t b)
 
 -- what was added to each row's slot and to each line's: to byte b of row r `g b r`, and of line n `f b n`
 pub record Plus (k size : ℕ) (was : List ℕ) (g f : ℕ → ℕ → ℕ) (after : List ℕ) : Type 0 where

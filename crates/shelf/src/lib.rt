@@ -1,4 +1,5 @@
 mod blocks;
 mod gather;
+pub mod roster;
 mod slots;
 mod sums;
