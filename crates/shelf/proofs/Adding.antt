@@ -1,20 +1,22 @@
 -- What is added to the slots of rows and lines.
 use mathlib.Core.Path.{_≡_, refl, sym, ap, ap₂, _∙_}
 use mathlib.Core.Logic.{_≢_}
-use mathlib.Core.Bool.{Bool, true, false, _&&_}
+use mathlib.Core.Bool.{Bool, true, false, cond, _&&_}
 use mathlib.Core.List.{List}
-use Prim.Native.Nat.{ℕ, _+_, _*_, _<_, _≤_}
+use Prim.Native.Nat.{ℕ, _+_, _-_, _*_, _<_, _≤_}
 use native.Mathlib.Omega.{arith}
 use native.Mathlib.Nat.{mul-le-mul-right}
 use native.Mathlib.Decide.{ℕ-discrete}
 use lib.Bits.{bitXor, xor-assoc, xor-zero-r}
-use lib.Dec.{eqb}
+use lib.Dec.{eqb, leb, ltb}
 use lib.ListN.{length, getD}
 use borrow.Author.Tests.{eq-true, ne-false, eqb-true, eqb-false}
+use Rattle.std.proofs.shelf.Ways.{tells}
+use Rattle.code.specs.Widths.{isWidth}
 use Rattle.code.specs.Numbers.{only}
 use Rattle.code.specs.Code.{rows}
 use Rattle.code.proofs.Xor.{only-false}
-use Rattle.shelf.specs.Slots.{slot, rowSlot, lineSlot, Room, SlotAdded, Plus, nothing}
+use Rattle.shelf.specs.Slots.{slot, rowSlot, lineSlot, Room, SlotAdded, SlotSet, Filled, Plus, nothing}
 
 -- a slot lies in the work space
 pub has-slot : (k size : ℕ) (work : List ℕ) → Room k size work → (s : ℕ) → s < rows k + rows k → (s + 1) * size ≤ length work
@@ -22,6 +24,38 @@ has-slot k size work room s l = omega (arith, mul-le-mul-right {m = s + 1} {n = 
 
 pub room-kept : (k size : ℕ) (was work : List ℕ) → Room k size was → length work ≡ length was → Room k size work
 room-kept k size was work room e = record { width = room .width; large = omega (arith, room .large) }
+
+-- as many rows as the code counts
+pub rows-are : (k size : ℕ) (work : List ℕ) → Room k size work → (n : ℕ) → n ≡ cond (isWidth k) (rows k) 0 → n ≡ rows k
+rows-are k size work room n e = e ∙ ap (λ b. cond b (rows k) 0) (room .width)
+
+-- slots filled one by one
+pub filled-none : (size : ℕ) (was : List ℕ) (first : ℕ) (f : ℕ → ℕ → ℕ) → Filled size was first 0 f was
+filled-none size was first f t b _ = grind (arith, tells)
+
+pub filled-more : (size : ℕ) (was : List ℕ) (first n : ℕ) (f : ℕ → ℕ → ℕ) (mid after : List ℕ)
+    → Filled size was first n f mid → SlotSet size mid (first + n) (f n) after → Filled size was first (n + 1) f after
+filled-more size was first n f mid after h s t b l =
+    s t b l
+    ∙ elim (ℕ-discrete t (first + n)) [
+      | yes e ↦
+          ap (λ x. cond x (f n b) (slot size mid t b)) (sym (eq-true t (first + n) e))
+          ∙ ap (λ x. f x b) (here t e)
+          ∙ ap (λ x. cond x (f (t - first) b) (slot size was t b)) (in-range t e)
+      | no d ↦
+          ap (λ x. cond x (f n b) (slot size mid t b)) (sym (ne-false t (first + n) d))
+          ∙ h t b l
+          ∙ ap (λ x. cond x (f (t - first) b) (slot size was t b)) (same t d)
+    ]
+  where
+    here : (t : ℕ) → t ≡ first + n → n ≡ t - first
+    here t e = omega arith
+
+    in-range : (t : ℕ) → t ≡ first + n → true ≡ leb first t && ltb t (first + (n + 1))
+    in-range t e = grind (arith, tells)
+
+    same : (t : ℕ) → t ≢ first + n → leb first t && ltb t (first + n) ≡ leb first t && ltb t (first + (n + 1))
+    same t d = grind (arith, tells)
 
 -- slots behind the rows are told apart as their lines are
 shifted : (r a b : ℕ) → eqb (r + a) (r + b) ≡ eqb a b

@@ -19,7 +19,8 @@ use Rattle.code.proofs.Lost.{beside-none, gives-none}
 use Rattle.law.specs.Service.{Columns}
 use Rattle.law.specs.Holding.{held}
 use Rattle.shelf.specs.Slots.{Plus, nothing, Summed, one}
-use Rattle.shelf.specs.Reading.{afterReads, times, part, served}
+use Rattle.shelf.specs.Blocks.{Ready}
+use Rattle.shelf.specs.Reading.{Answers, afterReads, times, part, served}
 use Rattle.shelf.proofs.Adding.{plus-none, plus-same, plus-plus}
 
 -- ---- tallies
@@ -90,6 +91,12 @@ column-none m j w = reads-none m w ∙ reads-same m (λ _. 0) (times j 0) (λ c.
 
 pub column-more : (m m′ : Meaning) (j n : ℕ) → m′ ≡ afterReads m (times j n) → tallied m′ j ≡ afterReads m (times j (n + 1))
 column-more m m′ j n e = ap (λ x. tallied x j) e ∙ reads-more m (times j n) j ∙ reads-same m _ _ (times-more j n)
+
+-- a tray that was only read still answers
+pub ready-still : (k size : ℕ) (m m′ : Meaning) (f : ℕ → ℕ) (j n : ℕ) → m′ ≡ afterReads m f → Answers k size m j → n < rows k → Ready m′ j n size
+ready-still k size m m′ f j n e a l =
+    subst (λ x. Ready x j n size) (sym e)
+    (record { column = omega (arith, a .shape .wide, a .column); row = omega (arith, a .shape .tall); long = sym (a .shape .deep); answers = a .flag })
 
 -- ---- sums
 

@@ -1,13 +1,16 @@
 -- What a call reads of a tray that it has checked.
 use mathlib.Core.Path.{_≡_}
-use mathlib.Core.Bool.{Bool, true, not, cond, _&&_}
+use mathlib.Core.Bool.{Bool, true, false, not, cond, _&&_, _||_}
 use Prim.Native.Nat.{ℕ, _+_, _%_, _^_, _<_}
 use lib.Dec.{eqb, ltb}
 use Rattle.tray.specs.Meaning.{Meaning}
-use Rattle.code.specs.Numbers.{only}
-use Rattle.code.specs.Code.{Blocks}
+use mathlib.Core.List.{List}
+use lib.Bits.{bitXor}
+use Rattle.code.specs.Numbers.{only, any}
+use Rattle.code.specs.Code.{Blocks, Rule, rows, horizontal, butterfly}
 use Rattle.law.specs.Service.{Columns}
-use Rattle.law.specs.Holding.{Shaped}
+use Rattle.law.specs.Holding.{Shaped, held}
+use Rattle.shelf.specs.Slots.{rowSlot, lineSlot}
 
 -- a tray of this shape whose column c answers
 pub record Answers (k size : ℕ) (m : Meaning) (c : ℕ) : Type 0 where
@@ -38,3 +41,27 @@ part j n M i c = only (eqb c j && ltb i n) (M i c)
 -- the columns in service below n, and nothing elsewhere
 abbrev pub served : Columns → ℕ → Blocks → Blocks
 served out n M i c = only (not (out c) && ltb c n) (M i c)
+
+-- a data column is out
+abbrev pub dataOut : ℕ → Columns → Bool
+dataOut k out = any k out
+
+-- the columns that are read to find what is missing: those in service, but no parity where all data are in service
+unfoldable pub isRead : ℕ → Columns → ℕ → Bool
+isRead k out c = ltb c (k + 2) && (not (out c) && (ltb c k || dataOut k out))
+
+-- each block of these is read once
+abbrev pub onceEach : ℕ → Columns → ℕ → ℕ
+onceEach k out c = cond (isRead k out c) (rows k) 0
+
+-- the sums, once all data in service are added to the parities that are read, lane by lane: what the missing data are to add up to
+pub record Gathered (k : ℕ) (right : Rule) (size : ℕ) (out : Columns) (m : Meaning) (work : List ℕ) : Type 0 where
+  pub row : (b r : ℕ) → b < size → r < rows k
+      → rowSlot size work b r ≡ bitXor (only (isRead k out k) (held m b r k)) (horizontal k (served out k (held m b)) r)
+  pub line : (b n : ℕ) → b < size → n < rows k
+      → lineSlot k size work b n ≡ bitXor (only (isRead k out (k + 1)) (held m b n (k + 1))) (butterfly k right (served out k (held m b)) n)
+
+-- a tray of this shape, whose columns in service answer
+pub record Heard (k size : ℕ) (out : Columns) (m : Meaning) : Type 0 where
+  pub shape : Shaped k size m
+  pub answers : (c : ℕ) → c < k + 2 → out c ≡ false → m .answers c ≡ true

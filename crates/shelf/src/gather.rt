@@ -1,18 +1,41 @@
 // Reads whole columns of a tray into the sums of rows and lines.
 ghost use mathlib.Core.Path.{_≡_};
 ghost use mathlib.Core.Bool.{true};
-ghost use Prim.Native.Nat.{ℕ, _<_};
+ghost use Prim.Native.Nat.{ℕ, _<_, _≤_};
 ghost use lib.ListN.{length};
 ghost use Rattle.code.specs.Code.{rows};
 ghost use Rattle.code.specs.Neighbours.{published};
 ghost use Rattle.law.specs.Holding.{held};
-ghost use Rattle.shelf.specs.Slots.{Room, Summed};
+ghost use Rattle.shelf.specs.Slots.{Room, Filled, Summed};
 ghost use Rattle.shelf.specs.Reading.{Answers, afterReads, times, part};
 use crate::blocks::fetch;
+use crate::slots::clear_slot;
+use crate::slots::fetch_slot;
 use crate::sums::add_place;
 use code::places::Row;
 use code::widths::rows_of;
 use tray::trays::Tray;
+
+// Fills the slots from `first` on, one for each row, with zeros.
+fn clear(k: u32, first: usize, size: usize, work: &mut [u8])
+    requires { ⌜ Room k size (now work) ⌝ ∗ ⌜ first ≤ rows k ⌝ }
+    ensures { λ _. ⌜ Filled size (now (work .entry)) first (rows k) (λ _ _. 0) (now (work .exit)) ⌝ }
+{
+    for row in 0..rows_of(k) {
+        clear_slot(work, first + row as usize, size);
+    }
+}
+
+// Reads a column once into the slots from `first` on, one for each row.
+fn load<T: Tray>(tray: &mut T, k: u32, column: u32, first: usize, size: usize, work: &mut [u8])
+    requires { ⌜ Room k size (now work) ⌝ ∗ ⌜ Answers k size (T·Tray .meaning (now tray)) column ⌝ ∗ ⌜ first ≤ rows k ⌝ }
+    ensures tray { λ _. ⌜ T·Tray .meaning (now (tray .exit)) ≡ afterReads (T·Tray .meaning (now (tray .entry))) (times column (rows k)) ⌝ }
+    ensures work { λ _. ⌜ Filled size (now (work .entry)) first (rows k) (λ r b. held (T·Tray .meaning (now (tray .entry))) b r column) (now (work .exit)) ⌝ }
+{
+    for row in 0..rows_of(k) {
+        fetch_slot(tray, column, row, work, first + row as usize, size);
+    }
+}
 
 // Reads a data column once and adds its blocks to the sums, by way of a block of scratch space.
 pub(crate) fn gather_column<T: Tray>(tray: &mut T, k: u32, column: u32, block: &mut [u8], work: &mut [u8])
