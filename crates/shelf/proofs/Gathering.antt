@@ -10,6 +10,7 @@ use lib.Bits.{bitXor, xor-zero-r}
 use lib.Dec.{eqb, ltb}
 use lib.ListN.{getD}
 use borrow.Author.Tests.{eq-true, ne-false, lt-true, le-false, eqb-true, eqb-false}
+use Rattle.std.proofs.shelf.Ways.{tells}
 use Rattle.tray.specs.Meaning.{Meaning, Wraps, tallied}
 use Rattle.code.specs.Numbers.{only, xorsum}
 use Rattle.code.specs.Code.{Blocks, Rule, spot, rows, meets, horizontal, butterfly, gives, beside}
@@ -20,7 +21,7 @@ use Rattle.law.specs.Service.{Columns}
 use Rattle.law.specs.Holding.{held}
 use Rattle.shelf.specs.Slots.{Plus, nothing, Summed, one}
 use Rattle.shelf.specs.Blocks.{Ready}
-use Rattle.shelf.specs.Reading.{Answers, afterReads, times, part, served}
+use Rattle.shelf.specs.Reading.{Answers, Heard, afterReads, times, eachBelow, part, inService, served}
 use Rattle.shelf.proofs.Adding.{plus-none, plus-same, plus-plus}
 
 -- ---- tallies
@@ -120,6 +121,14 @@ module _ (k : ℕ) (right : Rule) (size : ℕ) (was : List ℕ) where
       (λ b n bl nl. sym (butterfly-xor k right (E b) (F b) n) ∙ butterfly-same k right (difference (E b) (F b)) (G b) (λ i c il cl. e b i c bl il cl) n nl)
       (plus-plus k size was (λ b. horizontal k (E b)) (λ b. butterfly k right (E b)) (λ b. horizontal k (F b)) (λ b. butterfly k right (F b)) mid after p q)
 
+  -- data that are the same have the same sums
+  pub sums-same : (E F : ℕ → Blocks) (after : List ℕ) → ((b i c : ℕ) → b < size → i < rows k → c < k → E b i c ≡ F b i c)
+      → Summed k right size was E after → Summed k right size was F after
+  sums-same E F after e p =
+      plus-same k size was _ _ (λ b. horizontal k (F b)) (λ b. butterfly k right (F b)) after
+      (λ b r bl rl. horizontal-same k right (E b) (F b) (λ i c il cl. e b i c bl il cl) r rl)
+      (λ b n bl nl. butterfly-same k right (E b) (F b) (λ i c il cl. e b i c bl il cl) n nl) p
+
 -- one more row of a column
 pub part-none : (j i c : ℕ) (M : Blocks) → part j 0 M i c ≡ 0
 unfolding only
@@ -155,3 +164,94 @@ row-added k right size was mid after m j n len x e f p q =
     sums-more k right size was (λ b. part j n (held m b)) (one n j x) (λ b. part j (n + 1) (held m b)) mid after
     (λ b i c _ _ _. ap (λ y. bitXor (part j n (held m b) i c) (spot n j (getD y b 0) i c)) f ∙ part-more j n i c (held m b))
     p (subst (λ s. Summed k right s mid (one n j x) after) e q)
+
+-- ---- column by column
+
+off : (b : Bool) → b && false ≡ false
+off true = refl
+off false = refl
+
+module _ (out : Columns) where
+  pub each-none : (n c : ℕ) → eachBelow out n 0 c ≡ 0
+  each-none n c = ap (λ b. cond (not (out c) && b) n 0) (sym (le-false c 0 (omega arith))) ∙ ap (λ b. cond b n 0) (off (not (out c)))
+
+  pub each-more : (n j c : ℕ) → eachBelow out n j c + times j (cond (out j) 0 n) c ≡ eachBelow out n (j + 1) c
+  each-more n j c =
+      elim (ℕ-discrete c j) [
+        | yes e ↦
+            ap₂ (λ x y. cond (not (out c) && x) n 0 + cond y (cond (out j) 0 n) 0) (sym (le-false c j (omega arith))) (sym (eq-true c j e))
+            ∙ ap (λ x. cond x n 0 + cond (out j) 0 n) (off (not (out c))) ∙ turn (out j) ∙ ap (λ x. cond (not (out x) && true) n 0) (sym e)
+            ∙ ap (λ x. cond (not (out c) && x) n 0) (lt-true c (j + 1) (omega arith))
+        | no d ↦
+            ap (λ y. eachBelow out n j c + cond y (cond (out j) 0 n) 0) (sym (ne-false c j d)) ∙ plus-zero (eachBelow out n j c)
+            ∙ ap (λ x. cond (not (out c) && x) n 0) (still c j d)
+      ]
+    where
+      turn : (b : Bool) → 0 + cond b 0 n ≡ cond (not b && true) n 0
+      turn true = refl
+      turn false = refl-plus n
+        where
+          refl-plus : (n : ℕ) → 0 + n ≡ n
+          refl-plus n = omega arith
+
+      plus-zero : (x : ℕ) → x + 0 ≡ x
+      plus-zero x = omega arith
+
+      still : (c j : ℕ) → c ≢ j → ltb c j ≡ ltb c (j + 1)
+      still c j d = grind (arith, tells)
+
+  module _ (M : Blocks) (i c : ℕ) where
+    pub served-none : served out 0 M i c ≡ 0
+    unfolding only
+    served-none = ap (λ b. cond (not (out c) && b) (M i c) 0) (sym (le-false c 0 (omega arith))) ∙ ap (λ b. cond b (M i c) 0) (off (not (out c)))
+
+    pub served-more : (j : ℕ) → bitXor (served out j M i c) (inService out j M i c) ≡ served out (j + 1) M i c
+    unfolding only
+    served-more j =
+        elim (ℕ-discrete c j) [
+          | yes e ↦
+              ap₂ (λ x y. bitXor (cond (not (out c) && x) (M i c) 0) (cond (not (out c) && y) (M i c) 0)) (sym (le-false c j (omega arith))) (sym (eq-true c j e))
+              ∙ ap (λ x. bitXor (cond x (M i c) 0) (cond (not (out c) && true) (M i c) 0)) (off (not (out c)))
+              ∙ ap (λ x. cond (not (out c) && x) (M i c) 0) (lt-true c (j + 1) (omega arith))
+          | no d ↦
+              ap (λ y. bitXor (served out j M i c) (cond (not (out c) && y) (M i c) 0)) (sym (ne-false c j d))
+              ∙ ap (λ x. bitXor (served out j M i c) (cond x (M i c) 0)) (off (not (out c)))
+              ∙ xor-zero-r (served out j M i c)
+              ∙ ap (λ x. cond (not (out c) && x) (M i c) 0) (still c j d)
+        ]
+      where
+        still : (c j : ℕ) → c ≢ j → ltb c j ≡ ltb c (j + 1)
+        still c j d = grind (arith, tells)
+
+    -- a column in service is added as it is held, and one that is out not at all
+    pub part-served : (j n : ℕ) → out j ≡ false → i < n → part j n M i c ≡ inService out j M i c
+    unfolding only
+    part-served j n o l =
+        ap (λ x. cond (eqb c j && x) (M i c) 0) (sym (lt-true i n l))
+        ∙ ap (λ x. cond x (M i c) 0) (elim (ℕ-discrete c j) [
+          | yes e ↦ ap (λ x. x && true) (sym (eq-true c j e)) ∙ ap₂ (λ x y. not x && y) (sym (ap out e ∙ o)) (eq-true c j e)
+          | no d ↦ ap (λ x. x && true) (sym (ne-false c j d)) ∙ sym (off (not (out c))) ∙ ap (λ x. not (out c) && x) (ne-false c j d)
+        ])
+
+    pub none-served : (j : ℕ) → out j ≡ true → inService out j M i c ≡ 0
+    unfolding only
+    none-served j o =
+        ap (λ x. cond x (M i c) 0) (elim (ℕ-discrete c j) [
+          | yes e ↦ ap (λ x. not x && eqb c j) (ap out e ∙ o)
+          | no d ↦ ap (λ x. not (out c) && x) (sym (ne-false c j d)) ∙ off (not (out c))
+        ])
+
+pub heard-one : (k size : ℕ) (out : Columns) (m : Meaning) → Heard k size out m → (c : ℕ) → c < k + 2 → out c ≡ false → Answers k size m c
+heard-one k size out m h c l o = record { shape = h .shape; column = l; flag = h .answers c l o }
+
+pub heard-still : (k size : ℕ) (out : Columns) (m m′ : Meaning) (f : ℕ → ℕ) → m′ ≡ afterReads m f → Heard k size out m → Heard k size out m′
+heard-still k size out m m′ f e h = subst (Heard k size out) (sym e) (record { shape = record { wide = h .shape .wide; tall = h .shape .tall; deep = h .shape .deep }; answers = h .answers })
+
+-- one more column, as it was read
+pub column-added : (k : ℕ) (right : Rule) (size : ℕ) (was mid after : List ℕ) (m m′ : Meaning) (f : ℕ → ℕ) (out : Columns) (j len : ℕ)
+    → len ≡ size → m′ ≡ afterReads m f → Summed k right size was (λ b. served out j (held m b)) mid → Summed k right len mid (λ b. inService out j (held m′ b)) after
+    → Summed k right size was (λ b. served out (j + 1) (held m b)) after
+column-added k right size was mid after m m′ f out j len e h p q =
+    sums-more k right size was (λ b. served out j (held m b)) (λ b. inService out j (held m′ b)) (λ b. served out (j + 1) (held m b)) mid after
+    (λ b i c _ _ _. ap (λ x. bitXor (served out j (held m b) i c) (inService out j (held x b) i c)) h ∙ served-more out (held m b) i c j)
+    p (subst (λ s. Summed k right s mid (λ b. inService out j (held m′ b)) after) e q)

@@ -1,14 +1,16 @@
 // Reads whole columns of a tray into the sums of rows and lines.
 ghost use mathlib.Core.Path.{_≡_};
-ghost use mathlib.Core.Bool.{true};
+ghost use mathlib.Core.Bool.{true, cond};
 ghost use Prim.Native.Nat.{ℕ, _<_, _≤_};
 ghost use lib.ListN.{length};
 ghost use Rattle.code.specs.Code.{rows};
 ghost use Rattle.code.specs.Neighbours.{published};
 ghost use Rattle.law.specs.Holding.{held};
 ghost use Rattle.shelf.specs.Slots.{Room, Filled, Summed};
-ghost use Rattle.shelf.specs.Reading.{Answers, afterReads, times, part};
+ghost use Rattle.shelf.specs.Missing.{isOut};
+ghost use Rattle.shelf.specs.Reading.{Answers, Heard, afterReads, times, eachBelow, part, inService, served};
 use crate::blocks::fetch;
+use crate::roster::missing::Missing;
 use crate::slots::clear_slot;
 use crate::slots::fetch_slot;
 use crate::sums::add_place;
@@ -46,5 +48,27 @@ pub(crate) fn gather_column<T: Tray>(tray: &mut T, k: u32, column: u32, block: &
     for row in 0..rows_of(k) {
         fetch(tray, column, row, block);
         add_place(work, k, Row(row), column, block);
+    }
+}
+
+// The same for a data column that may be out: then there is nothing to add.
+fn gather_served<T: Tray>(tray: &mut T, k: u32, out: Missing, column: u32, block: &mut [u8], work: &mut [u8])
+    requires { ⌜ Room k (length (now block)) (now work) ⌝ ∗ ⌜ Heard k (length (now block)) (isOut out) (T·Tray .meaning (now tray)) ⌝ ∗ ⌜ column < k ⌝ }
+    ensures tray { λ _. ⌜ T·Tray .meaning (now (tray .exit)) ≡ afterReads (T·Tray .meaning (now (tray .entry))) (times column (cond (isOut out column) 0 (rows k))) ⌝ }
+    ensures work { λ _. ⌜ Summed k (published k) (length (now (block .entry))) (now (work .entry)) (λ b. inService (isOut out) column (held (T·Tray .meaning (now (tray .entry))) b)) (now (work .exit)) ⌝ }
+{
+    if !out.is_out(column) {
+        gather_column(tray, k, column, block, work);
+    }
+}
+
+// Reads every data column in service once and adds its blocks to the sums.
+fn gather_data<T: Tray>(tray: &mut T, k: u32, out: Missing, block: &mut [u8], work: &mut [u8])
+    requires { ⌜ Room k (length (now block)) (now work) ⌝ ∗ ⌜ Heard k (length (now block)) (isOut out) (T·Tray .meaning (now tray)) ⌝ }
+    ensures tray { λ _. ⌜ T·Tray .meaning (now (tray .exit)) ≡ afterReads (T·Tray .meaning (now (tray .entry))) (eachBelow (isOut out) (rows k) k) ⌝ }
+    ensures work { λ _. ⌜ Summed k (published k) (length (now (block .entry))) (now (work .entry)) (λ b. served (isOut out) k (held (T·Tray .meaning (now (tray .entry))) b)) (now (work .exit)) ⌝ }
+{
+    for column in 0..k {
+        gather_served(tray, k, out, column, block, work);
     }
 }

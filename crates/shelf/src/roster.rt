@@ -1,1 +1,2 @@
 pub mod missing;
+mod reads;
