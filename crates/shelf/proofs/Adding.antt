@@ -57,6 +57,34 @@ filled-more size was first n f mid after h s t b l =
     same : (t : ℕ) → t ≢ first + n → leb first t && ltb t (first + n) ≡ leb first t && ltb t (first + (n + 1))
     same t d = grind (arith, tells)
 
+pub filled-same : (size : ℕ) (was : List ℕ) (first n : ℕ) (f g : ℕ → ℕ → ℕ) (after : List ℕ) → ((t b : ℕ) → f t b ≡ g t b) → Filled size was first n f after → Filled size was first n g after
+filled-same size was first n f g after e h t b l = h t b l ∙ ap (λ x. cond (leb first t && ltb t (first + n)) x (slot size was t b)) (e (t - first) b)
+
+-- the slots of rows and of lines, filled one part after the other
+module _ (size r : ℕ) (was mid after : List ℕ) (f g : ℕ → ℕ → ℕ) (rows-filled : Filled size was 0 r f mid) (lines-filled : Filled size mid r r g after) where
+  pub row-filled : (b i : ℕ) → b < size → i < r → slot size after i b ≡ f i b
+  row-filled b i bl l =
+      lines-filled i b bl ∙ ap (λ x. cond x (g (i - r) b) (slot size mid i b)) (sym (not-yet r i l))
+      ∙ rows-filled i b bl ∙ ap (λ x. cond x (f (i - 0) b) (slot size was i b)) (sym (there r i l)) ∙ ap (λ x. f x b) (same i)
+    where
+      not-yet : (r i : ℕ) → i < r → false ≡ leb r i && ltb i (r + r)
+      not-yet r i l = grind (arith, tells)
+
+      there : (r i : ℕ) → i < r → true ≡ leb 0 i && ltb i (0 + r)
+      there r i l = grind (arith, tells)
+
+      same : (i : ℕ) → i - 0 ≡ i
+      same i = omega arith
+
+  pub line-filled : (b n : ℕ) → b < size → n < r → slot size after (r + n) b ≡ g n b
+  line-filled b n bl l = lines-filled (r + n) b bl ∙ ap (λ x. cond x (g (r + n - r) b) (slot size mid (r + n) b)) (sym (there r n l)) ∙ ap (λ x. g x b) (same r n)
+    where
+      there : (r n : ℕ) → n < r → true ≡ leb r (r + n) && ltb (r + n) (r + r)
+      there r n l = grind (arith, tells)
+
+      same : (r n : ℕ) → r + n - r ≡ n
+      same r n = omega arith
+
 -- slots behind the rows are told apart as their lines are
 shifted : (r a b : ℕ) → eqb (r + a) (r + b) ≡ eqb a b
 shifted r a b =

@@ -19,10 +19,10 @@ use Rattle.code.proofs.Linear.{difference, horizontal-same, butterfly-same, hor
 use Rattle.code.proofs.Lost.{beside-none, gives-none}
 use Rattle.law.specs.Service.{Columns}
 use Rattle.law.specs.Holding.{held}
-use Rattle.shelf.specs.Slots.{Plus, nothing, Summed, one}
+use Rattle.shelf.specs.Slots.{Filled, Plus, nothing, Summed, one}
 use Rattle.shelf.specs.Blocks.{Ready}
-use Rattle.shelf.specs.Reading.{Answers, Heard, afterReads, times, eachBelow, part, inService, served}
-use Rattle.shelf.proofs.Adding.{plus-none, plus-same, plus-plus}
+use Rattle.shelf.specs.Reading.{Answers, Heard, afterReads, times, eachBelow, onceEach, part, inService, served, parityRead, isRead, Gathered}
+use Rattle.shelf.proofs.Adding.{plus-none, plus-same, plus-plus, row-filled, line-filled}
 
 -- ---- tallies
 
@@ -255,3 +255,70 @@ column-added k right size was mid after m m′ f out j len e h p q =
     sums-more k right size was (λ b. served out j (held m b)) (λ b. inService out j (held m′ b)) (λ b. served out (j + 1) (held m b)) mid after
     (λ b i c _ _ _. ap (λ x. bitXor (served out j (held m b) i c) (inService out j (held x b) i c)) h ∙ served-more out (held m b) i c j)
     p (subst (λ s. Summed k right s mid (λ b. inService out j (held m′ b)) after) e q)
+
+-- ---- all that is read
+
+-- by cases of the column: a data column, the horizontal one, the butterfly one, or none
+pub once-each : (k : ℕ) (out : Columns) (c : ℕ)
+    → times k (cond (parityRead k out k) (rows k) 0) c + times (k + 1) (cond (parityRead k out (k + 1)) (rows k) 0) c + eachBelow out (rows k) k c ≡ onceEach k out c
+unfolding isRead
+once-each k out c =
+    elim (decLt c k) [
+      | yes l ↦ data-read k c (rows k) (not (out c)) (parityRead k out k) (parityRead k out (k + 1)) (parityRead k out c) l
+      | no h ↦
+          elim (ℕ-discrete c k) [
+            | yes e ↦ ap (λ p. times k (cond (parityRead k out p) (rows k) 0) c + times (k + 1) (cond (parityRead k out (k + 1)) (rows k) 0) c + eachBelow out (rows k) k c) (sym e)
+                ∙ first-read k c (rows k) (not (out c)) (parityRead k out (k + 1)) (parityRead k out c) e
+            | no d ↦
+                elim (ℕ-discrete c (k + 1)) [
+                  | yes e ↦ ap (λ p. times k (cond (parityRead k out k) (rows k) 0) c + times (k + 1) (cond (parityRead k out p) (rows k) 0) c + eachBelow out (rows k) k c) (sym e)
+                      ∙ second-read k c (rows k) (not (out c)) (parityRead k out k) (parityRead k out c) e
+                  | no d′ ↦ none-read k c (rows k) (not (out c)) (parityRead k out k) (parityRead k out (k + 1)) (parityRead k out c) (omega arith)
+                ]
+          ]
+    ]
+  where
+    data-read : (k c n : ℕ) (o p q r : Bool) → c < k
+        → cond (eqb c k) (cond p n 0) 0 + cond (eqb c (k + 1)) (cond q n 0) 0 + cond (o && ltb c k) n 0 ≡ cond (cond (ltb c k) o (ltb c (k + 2) && r)) n 0
+    data-read k c n o p q r l = grind (arith, tells)
+
+    first-read : (k c n : ℕ) (o q r : Bool) → c ≡ k
+        → cond (eqb c k) (cond r n 0) 0 + cond (eqb c (k + 1)) (cond q n 0) 0 + cond (o && ltb c k) n 0 ≡ cond (cond (ltb c k) o (ltb c (k + 2) && r)) n 0
+    first-read k c n o q r e = grind (arith, tells)
+
+    second-read : (k c n : ℕ) (o p r : Bool) → c ≡ k + 1
+        → cond (eqb c k) (cond p n 0) 0 + cond (eqb c (k + 1)) (cond r n 0) 0 + cond (o && ltb c k) n 0 ≡ cond (cond (ltb c k) o (ltb c (k + 2) && r)) n 0
+    second-read k c n o p r e = grind (arith, tells)
+
+    none-read : (k c n : ℕ) (o p q r : Bool) → k + 2 ≤ c
+        → cond (eqb c k) (cond p n 0) 0 + cond (eqb c (k + 1)) (cond q n 0) 0 + cond (o && ltb c k) n 0 ≡ cond (cond (ltb c k) o (ltb c (k + 2) && r)) n 0
+    none-read k c n o p q r l = grind (arith, tells)
+
+-- the parities, one after the other, and then the data
+module _ (k : ℕ) (right : Rule) (size : ℕ) (out : Columns) (m m₁ m₂ m₃ : Meaning) (was w₁ w₂ w₃ : List ℕ) (p q : Bool) (r : ℕ)
+    (is-p : p ≡ parityRead k out k) (is-q : q ≡ parityRead k out (k + 1)) (is-r : r ≡ rows k)
+    (e₁ : m₁ ≡ afterReads m (times k (cond p (rows k) 0))) (f₁ : Filled size was 0 (rows k) (λ i b. only p (held m b i k)) w₁)
+    (e₂ : m₂ ≡ afterReads m₁ (times (k + 1) (cond q (rows k) 0))) (f₂ : Filled size w₁ r (rows k) (λ i b. only q (held m₁ b i (k + 1))) w₂)
+    (e₃ : m₃ ≡ afterReads m₂ (eachBelow out (rows k) k)) (f₃ : Summed k right size w₂ (λ b. served out k (held m₂ b)) w₃) where
+  both : m₂ ≡ afterReads m (λ c. times k (cond p (rows k) 0) c + times (k + 1) (cond q (rows k) 0) c)
+  both = e₂ ∙ ap (λ x. afterReads x (times (k + 1) (cond q (rows k) 0))) e₁ ∙ reads-reads m (times k (cond p (rows k) 0)) (times (k + 1) (cond q (rows k) 0))
+
+  pub gathered-reads : m₃ ≡ afterReads m (onceEach k out)
+  gathered-reads =
+      e₃ ∙ ap (λ x. afterReads x (eachBelow out (rows k) k)) both
+      ∙ reads-reads m (λ c. times k (cond p (rows k) 0) c + times (k + 1) (cond q (rows k) 0) c) (eachBelow out (rows k) k)
+      ∙ reads-same m _ (onceEach k out)
+      (λ c. ap₂ (λ x y. times k (cond x (rows k) 0) c + times (k + 1) (cond y (rows k) 0) c + eachBelow out (rows k) k c) is-p is-q ∙ once-each k out c)
+
+  lines : Filled size w₁ (rows k) (rows k) (λ i b. only q (held m₁ b i (k + 1))) w₂
+  lines = subst (λ x. Filled size w₁ x (rows k) (λ i b. only q (held m₁ b i (k + 1))) w₂) is-r f₂
+
+  pub gathered-sums : Gathered k right size out m w₃
+  gathered-sums =
+      record {
+        row = λ b i bl l. f₃ .row b i bl l
+            ∙ ap₂ (λ x y. bitXor x (horizontal k (served out k (held y b)) i)) (row-filled size (rows k) was w₁ w₂ (λ i b. only p (held m b i k)) (λ i b. only q (held m₁ b i (k + 1))) f₁ lines b i bl l ∙ ap (λ x. only x (held m b i k)) is-p) both;
+        line = λ b n bl l. f₃ .line b n bl l
+            ∙ ap₂ (λ x y. bitXor x (butterfly k right (served out k (held y b)) n))
+            (line-filled size (rows k) was w₁ w₂ (λ i b. only p (held m b i k)) (λ i b. only q (held m₁ b i (k + 1))) f₁ lines b n bl l ∙ ap₂ (λ x y. only x (held y b n (k + 1))) is-q e₁) both;
+      }
