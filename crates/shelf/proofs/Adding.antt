@@ -1,5 +1,5 @@
 -- What is added to the slots of rows and lines.
-use mathlib.Core.Path.{_≡_, refl, sym, ap, ap₂, _∙_}
+use mathlib.Core.Path.{_≡_, refl, sym, ap, ap₂, _∙_, subst}
 use mathlib.Core.Logic.{_≢_}
 use mathlib.Core.Bool.{Bool, true, false, cond, _&&_}
 use mathlib.Core.List.{List}
@@ -21,6 +21,10 @@ use Rattle.shelf.specs.Slots.{slot, rowSlot, lineSlot, Room, SlotAdded, SlotSe
 -- a slot lies in the work space
 pub has-slot : (k size : ℕ) (work : List ℕ) → Room k size work → (s : ℕ) → s < rows k + rows k → (s + 1) * size ≤ length work
 has-slot k size work room s l = omega (arith, mul-le-mul-right {m = s + 1} {n = 2 * rows k} size (omega arith), room .large)
+
+-- the same for a block that is as long as one
+pub has-slot-for : (k size len : ℕ) (work : List ℕ) → Room k size work → len ≡ size → (s : ℕ) → s < rows k + rows k → (s + 1) * len ≤ length work
+has-slot-for k size len work room e s l = subst (λ x. (s + 1) * x ≤ length work) (sym e) (has-slot k size work room s l)
 
 pub room-kept : (k size : ℕ) (was work : List ℕ) → Room k size was → length work ≡ length was → Room k size work
 room-kept k size was work room e = record { width = room .width; large = omega (arith, room .large) }

@@ -101,14 +101,21 @@ ready-still k size m m′ f j n e a l =
 
 -- ---- sums
 
+-- a line of nothing
+pub line-none : (k : ℕ) (right : Rule) (E : Blocks) → ((i c : ℕ) → E i c ≡ 0) → (n : ℕ) → butterfly k right E n ≡ 0
+unfolding butterfly
+line-none k right E z n =
+    sum-none k (λ j. gives k right E (meets n j) j)
+    (λ j _. gives-none k right E (meets n j) j (z (meets n j) j) (λ _. beside-none k right E (meets n j) j (λ j′ _ _. z (meets n j) j′)))
+
 module _ (k : ℕ) (right : Rule) (size : ℕ) (was : List ℕ) where
   -- nothing was added
   pub sums-none : (E : ℕ → Blocks) → ((b i c : ℕ) → E b i c ≡ 0) → Summed k right size was E was
-  unfolding horizontal butterfly
+  unfolding horizontal
   sums-none E z =
       plus-same k size was nothing nothing (λ b. horizontal k (E b)) (λ b. butterfly k right (E b)) was
       (λ b r _ _. sym (sum-none k (E b r) (λ j _. z b r j)))
-      (λ b n _ _. sym (sum-none k (λ j. gives k right (E b) (meets n j) j) (λ j _. gives-none k right (E b) (meets n j) j (z b (meets n j) j) (λ _. beside-none k right (E b) (meets n j) j (λ j′ _ _. z b (meets n j) j′)))))
+      (λ b n _ _. sym (line-none k right (E b) (z b) n))
       (plus-none k size was)
 
   -- the sums of one data after those of another are the sums of both together

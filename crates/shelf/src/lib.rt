@@ -2,4 +2,5 @@ mod blocks;
 mod gather;
 pub mod roster;
 mod slots;
+mod solve;
 mod sums;

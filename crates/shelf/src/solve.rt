@@ -1,0 +1,36 @@
+// Solves two lost columns in the work space, once the sums of what is in service stand there.
+ghost use mathlib.Core.Path.{_≡_};
+ghost use Prim.Native.Nat.{ℕ, _<_, _≤_};
+ghost use lib.ListN.{length};
+ghost use Rattle.code.specs.Code.{rows};
+ghost use Rattle.code.specs.Neighbours.{published};
+ghost use Rattle.shelf.specs.Slots.{Room};
+ghost use Rattle.shelf.specs.Solving.{Spread, Settled};
+use crate::slots::add;
+use crate::slots::copy_slot;
+use crate::sums::add_to_lines;
+use crate::sums::line_slot;
+use code::places::Row;
+use code::widths::rows_of;
+
+// Adds what the row slots hold, as blocks of a data column, to the lines that hold them.
+pub(crate) fn spread(work: &mut [u8], k: u32, column: u32, block: &mut [u8])
+    requires { ⌜ Room k (length (now block)) (now work) ⌝ ∗ ⌜ column < k ⌝ }
+    ensures { λ _. ⌜ Spread k (published k) (length (now (block .entry))) (now (work .entry)) column (now (work .exit)) ⌝ }
+{
+    for row in 0..rows_of(k) {
+        copy_slot(work, row as usize, block);
+        add_to_lines(work, k, Row(row), column, k, block);
+    }
+}
+
+// Settles a row of which all of lower rank are settled: its line has its block of column p, which goes off the other sums.
+fn settle(work: &mut [u8], k: u32, p: u32, q: u32, row: Row, block: &mut [u8])
+    requires { ⌜ Room k (length (now block)) (now work) ⌝ ∗ ⌜ row .0 < rows k ⌝ ∗ ⌜ p < k ⌝ }
+    ensures { λ _. ⌜ Settled k (published k) (length (now (block .entry))) p q (row .0) (now (work .entry)) (now (work .exit)) ⌝ }
+{
+    copy_slot(work, line_slot(k, row.line(p)), block);
+    add(work, row.0 as usize, block);
+    add_to_lines(work, k, row, p, p, block);
+    add_to_lines(work, k, row, q, k, block);
+}
