@@ -4,12 +4,15 @@ use mathlib.Core.Logic.{_≢_, _⊎_, inl, inr}
 use mathlib.Core.Bool.{Bool, true, false, cond, not}
 use Prim.Native.Nat.{ℕ, zero, suc, _+_, _-_, _*_, _/_, _%_, _^_, _<_, _≤_}
 use native.Mathlib.Omega.{arith}
-use native.Mathlib.Nat.{mod-lt, div-eq-of-lt}
+use native.Mathlib.Nat.{mod-lt, div-eq-of-lt, add-assoc}
 use native.Mathlib.Numerals.{one-add}
 use native.Mathlib.Decide.{decLt}
+use lib.Count.{ones, ones-step, ones-le}
 use lib.Bits.{bitXor, xor-comm, xor-assoc, xor-self, xor-zero-r, xor-shr, xor-mod, xor-lt}
 use lib.Pow.{pow-pos, pow-mono, shr-shr, ones-lt}
 use lib.Dec.{eqb}
+use Rattle.code.specs.Numbers.{count}
+use Rattle.code.proofs.Count.{count-same}
 use Rattle.code.specs.Code.{rows, bit, under, dark, meets}
 use Rattle.code.proofs.Xor.{xor-swap, xor-eq-zero, xor-zero-eq}
 
@@ -100,6 +103,36 @@ gray i j =
     bits-ind (λ a b. eqb a b ≡ eqb (bitXor a b) 0) refl refl refl refl (bit i j) (under i j) (bit-lt i j) (under-lt i j)
     ∙ ap (λ (x : ℕ). eqb (bitXor (bit i j) x) 0) (doubled i j)
     ∙ ap (λ (x : ℕ). eqb x 0) (sym (bit-xor i (i * 2) j))
+
+-- the ones of a number are counted bit by bit
+count-first : (k : ℕ) (f : ℕ → Bool) → count (suc k) f ≡ cond (f 0) 1 0 + count k (λ j. f (suc j))
+unfolding count
+count-first zero f = omega arith
+count-first (suc k) f = ap (λ (n : ℕ). n + cond (f (suc k)) 1 0) (count-first k f) ∙ add-assoc (cond (f 0) 1 0) (count k (λ j. f (suc j))) (cond (f (suc k)) 1 0)
+
+ones-count : (k x : ℕ) → x < 2 ^ k → ones x ≡ count k (λ j. not (eqb (bit x j) 0))
+unfolding count
+ones-count zero x l = omega (arith, ones-le 0 x l)
+ones-count (suc k) x l =
+    ones-step x ∙ ap₂ (λ (a b : ℕ). a + b) (low (x % 2) (mod-lt x two-pos)) (ones-count k (x / 2) (omega (arith, l)) ∙ count-same k _ _ (λ j _. ap (λ (n : ℕ). not (eqb n 0)) (sym (bit-suc x j))))
+    ∙ ap (λ (n : ℕ). cond {A = ℕ} (not (eqb n 0)) 1 0 + count k (λ j. not (eqb (bit x (suc j)) 0))) (sym first)
+    ∙ sym (count-first k (λ j. not (eqb (bit x j) 0)))
+  where
+    first : bit x 0 ≡ x % 2
+    first = unfold bit in omega arith
+
+    two-pos : 0 < 2
+    two-pos = omega arith
+
+    low : (n : ℕ) → n < 2 → n ≡ cond (not (eqb n 0)) 1 0
+    low zero l = refl
+    low (suc zero) l = refl
+    low (suc (suc n)) l = omega arith
+
+pub white-ones : (i : ℕ) → i < 2 ^ 32 → ones (bitXor i (i * 2)) ≡ count 33 (λ j. not (dark i j))
+white-ones i l =
+    ones-count 33 (bitXor i (i * 2)) (xor-lt 33 i (i * 2) (omega arith) (omega arith))
+    ∙ count-same 33 _ _ (λ j _. ap not (sym (gray i j)))
 
 -- above a number's bits all places are dark
 pub dark-above : (t i j : ℕ) → i < 2 ^ t → t < j → dark i j ≡ true

@@ -1,6 +1,8 @@
 // Rows and lines, and the places where they cross the data columns.
 ghost use mathlib.Core.Path.{_≡_};
+ghost use mathlib.Core.Bool.{not};
 ghost use Prim.Native.Nat.{_≤_, _<_};
+ghost use Rattle.code.specs.Numbers.{count};
 ghost use Rattle.code.specs.Code.{dark, meets};
 
 // A row of the columns. A row and a line number run over one range, and name different things.
@@ -55,5 +57,13 @@ impl Row {
         }
         let row = u64::from(self.0);
         ((row ^ (row << 1)) >> column) & 1 == 0
+    }
+
+    // At how many columns the row is white: the ones of its Gray code.
+    pub fn whites(self) -> u32
+        ensures { λ r. ⌜ r ≡ count 33 (λ j. not (dark (self .0) j)) ⌝ }
+    {
+        let row = u64::from(self.0);
+        (row ^ (row << 1)).count_ones()
     }
 }
