@@ -1,0 +1,9 @@
+pub mod Limits
+pub mod Missing
+pub mod Pulling
+pub mod Drilling
+pub mod Promised
+pub mod Checked
+pub mod Frames
+pub mod Wiping
+pub mod Laying
