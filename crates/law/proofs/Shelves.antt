@@ -3,23 +3,21 @@ use mathlib.Core.Path.{_≡_, refl, sym, ap, _∙_}
 use mathlib.Core.Logic.{_≢_}
 use mathlib.Core.Bool.{true, cond}
 use mathlib.Core.List.{List, _∷_}
-use Prim.Native.Nat.{ℕ, _+_, _-_, _%_, _^_, _<_}
+use Prim.Native.Nat.{ℕ, _+_, _-_, _^_, _<_}
 use native.Mathlib.Omega.{arith}
 use lib.ListN.{getD}
 use lib.Seq.{ext-getD}
 use borrow.Author.Tests.{ne-false}
-use Rattle.std.proofs.shelf.Ways.{tells}
 use Rattle.std.specs.declared.option.Option.{Option}
 use Rattle.std.specs.declared.option.Option.the-variants.{Some, None}
 use Rattle.tray.specs.Meaning.{Meaning}
-use Rattle.code.specs.Widths.{isWidth}
 use Rattle.code.specs.Code.{Rule, rows, meets, value}
 use Rattle.code.specs.Neighbours.{Tournament, published}
 use Rattle.code.specs.Laws.{lane, AgreeOnHalf}
 use Rattle.code.proofs.Linear.{value-data, value-horizontal, value-butterfly}
 use Rattle.code.proofs.Rows.{meets-lt}
 use Rattle.code.proofs.Main.{any-two-blocks, half}
-use Rattle.code.proofs.Published.{odd-widths}
+use Rattle.code.proofs.Limits.{law-of-width}
 use Rattle.law.specs.Service.{Sole}
 use Rattle.law.specs.Holding.{held}
 use Rattle.law.specs.Tallies.{reads}
@@ -119,10 +117,5 @@ module _ (k : ℕ) (right : Rule) (law : Tournament k right) (size : ℕ) where
       at-point : {calls : List Event} {at : Point} {s : Shelf} → Run k right size calls at s → Stands k right size calls at s
       at-point = stands k right law size
 
--- the widths of a shelf are odd
-pub odd : (k : ℕ) → isWidth k ≡ true → k % 2 ≡ 1
-unfolding isWidth
-odd k w = grind (arith, tells)
-
 pub law-of-shelves : LawOfShelves
-law-of-shelves k size w = law-for k (published k) (odd-widths k (odd k w)) size
+law-of-shelves k size w = law-for k (published k) (law-of-width k w) size

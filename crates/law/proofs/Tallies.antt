@@ -9,7 +9,7 @@ use native.Mathlib.Numerals.{add-one}
 use native.Mathlib.Decide.{ℕ-discrete, decLt}
 use lib.Dec.{eqb, ltb}
 use borrow.Author.Tests.{eq-true, ne-false, lt-true, le-false}
-use Rattle.tray.specs.Meaning.{Meaning}
+use Rattle.tray.specs.Meaning.{Meaning, tallied}
 use Rattle.code.specs.Numbers.{count, any}
 use Rattle.code.specs.Code.{Rule, rows}
 use Rattle.law.specs.Service.{Columns, removed, AtMostTwo, Sole}
@@ -32,6 +32,24 @@ reads-none m m′ c e = reads-are m m′ c 0 (omega arith) (omega arith)
 pub reads-next : (m m′ m″ : Meaning) (c : ℕ) → m″ .tally c ≡ (m′ .tally c + 1) % 2 ^ 32 → reads m m″ c ≡ (reads m m′ c + 1) % 2 ^ 32
 unfolding reads
 reads-next m m′ m″ c e = omega arith
+
+-- after one more read of column c
+pub reads-tallied : (m m′ : Meaning) (c x : ℕ) → reads m (tallied m′ c) x ≡ cond (eqb x c) ((reads m m′ x + 1) % 2 ^ 32) (reads m m′ x)
+unfolding reads
+reads-tallied m m′ c x =
+    elim (ℕ-discrete x c) [
+      | yes e ↦
+          ap (λ t. (t + (2 ^ 32 - m .tally x % 2 ^ 32)) % 2 ^ 32)
+          (ap (λ t. cond t ((m′ .tally c + 1) % 2 ^ 32) (m′ .tally x)) (sym (eq-true x c e)) ∙ ap (λ y. (m′ .tally y + 1) % 2 ^ 32) (sym e))
+          ∙ wraps (m′ .tally x) (2 ^ 32 - m .tally x % 2 ^ 32)
+          ∙ ap (λ t. cond t (((m′ .tally x + (2 ^ 32 - m .tally x % 2 ^ 32)) % 2 ^ 32 + 1) % 2 ^ 32) ((m′ .tally x + (2 ^ 32 - m .tally x % 2 ^ 32)) % 2 ^ 32)) (eq-true x c e)
+      | no n ↦
+          ap (λ t. (cond t ((m′ .tally c + 1) % 2 ^ 32) (m′ .tally x) + (2 ^ 32 - m .tally x % 2 ^ 32)) % 2 ^ 32) (sym (ne-false x c n))
+          ∙ ap (λ t. cond t (((m′ .tally x + (2 ^ 32 - m .tally x % 2 ^ 32)) % 2 ^ 32 + 1) % 2 ^ 32) ((m′ .tally x + (2 ^ 32 - m .tally x % 2 ^ 32)) % 2 ^ 32)) (ne-false x c n)
+    ]
+  where
+    wraps : (a d : ℕ) → ((a + 1) % 2 ^ 32 + d) % 2 ^ 32 ≡ ((a + d) % 2 ^ 32 + 1) % 2 ^ 32
+    wraps a d = omega arith
 
 -- ---- sums over the columns
 

@@ -1,3 +1,12 @@
+pub mod Limits
+pub mod Missing
+pub mod Pulling
+pub mod Drilling
+pub mod Promised
+pub mod Checked
+pub mod Frames
+pub mod Wiping
+pub mod Laying
 pub mod Indices
 pub mod Adding
 pub mod Holding

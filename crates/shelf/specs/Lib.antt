@@ -1,5 +1,11 @@
-pub mod Blocks
 pub mod Missing
+pub mod Rosters
+pub mod Checks
+pub mod Promises
+pub mod Drills
+pub mod Blocks
+pub mod Wiped
+pub mod Layouts
 pub mod Slots
 pub mod Reading
 pub mod Solving

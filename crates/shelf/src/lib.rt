@@ -1,5 +1,9 @@
+// The butterfly shelf: data blocks on a tray of any make, kept so that any two lost columns come back.
 mod blocks;
+mod checks;
+pub mod drill;
 mod gather;
+pub mod layout;
 pub mod roster;
 mod slots;
 mod solve;
