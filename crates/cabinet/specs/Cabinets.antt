@@ -5,8 +5,10 @@ use Prim.Native.Nat.{ℕ, _*_, _%_, _^_}
 use lib.Dec.{ltb}
 use lib.ListN.{getD, take, drop, replicate}
 use Rattle.std.specs.Of.Vec.{vec-items}
+use Rattle.tray.specs.declared.trays.Shape.{Shape}
 use Rattle.tray.specs.Meaning.{Meaning}
 use Rattle.cabinet.specs.declared.cabinets.Cabinet.{Cabinet}
+use Rattle.cabinet.specs.declared.drawers.Drawer.{Drawer}
 use Rattle.cabinet.specs.Drawers.{held, counts}
 
 -- A cabinet by its shape, the bytes in each drawer and the reads of each. Every column answers.
@@ -20,8 +22,12 @@ cabinetMeaning columns rows size bytes reads = record {
   tally = λ c. getD reads c 0 % 2 ^ 32;
 }
 
+-- A cabinet by its shape and its drawers.
+abbrev pub drawersOf : Shape → List Drawer → Meaning
+drawersOf shape drawers = cabinetMeaning (shape .columns) (shape .rows) (shape .size) (held drawers) (counts drawers)
+
 abbrev pub cabinetOf : Cabinet → Meaning
-cabinetOf t = cabinetMeaning (t .shape .columns) (t .shape .rows) (t .shape .size) (held (vec-items (t .drawers))) (counts (vec-items (t .drawers)))
+cabinetOf t = drawersOf (t .shape) (vec-items (t .drawers))
 
 -- A new cabinet: every column answers, none was read, and every block is zeros.
 abbrev pub blank : ℕ → ℕ → ℕ → Meaning
