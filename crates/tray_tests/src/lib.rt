@@ -1,3 +1,9 @@
-// Trays in use. The functions here are proved examples of what a caller knows of a tray; the tests
-// run the makes at the edges of their limits.
+// Trays in use. The functions of `keeping` are proved examples of what a caller knows of a tray once
+// it has ended; the tests run the makes at the edges of their limits.
+#[cfg(test)]
+mod asking;
+#[cfg(test)]
+mod flats;
 pub mod keeping;
+#[cfg(test)]
+mod made_of_trays;
