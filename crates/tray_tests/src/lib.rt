@@ -2,6 +2,7 @@
 // it has ended; the tests run the makes at the edges of their limits.
 #[cfg(test)]
 mod asking;
+pub mod counting;
 #[cfg(test)]
 mod flats;
 pub mod keeping;
