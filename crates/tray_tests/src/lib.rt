@@ -1,10 +1,5 @@
-// Trays in use. The functions of `keeping` are proved examples of what a caller knows of a tray once
-// it has ended; the tests run the makes at the edges of their limits.
-#[cfg(test)]
-mod asking;
+// Trays in use. `keeping` and `counting` are proved examples of what a caller knows of a tray; the
+// tests of `edges` run the makes.
 pub mod counting;
-#[cfg(test)]
-mod flats;
+pub mod edges;
 pub mod keeping;
-#[cfg(test)]
-mod made_of_trays;
