@@ -14,10 +14,11 @@ use Rattle.std.proofs.shelf.Edits.{length-paste}
 use Rattle.std.proofs.shelf.Tests.{cases-eq, cases-lt, cases-bool, eq-eqb, ne-eqb, lt-ltb, le-ltb}
 use Rattle.std.proofs.shelf.Ways.{tells}
 use Rattle.tray.specs.declared.flat.Flat.{Flat}
-use Rattle.tray.specs.declared.flat.table.Column.{Column}
+use Rattle.tray.specs.declared.flat.columns.Column.{Column}
 use Rattle.tray.specs.Meaning.{Meaning, tallied, stored, switched}
 use Rattle.tray.specs.Limits.{flatColumns}
-use Rattle.tray.specs.FlatTrays.{absent, counted, turned, startOf, blocksIn, hasRoom, flatMeaning, flatOf, withColumn, withCells, written}
+use Rattle.tray.specs.FlatTrays.{startOf, blocksIn, hasRoom, flatMeaning, flatOf, written}
+use Rattle.tray.specs.FlatColumns.{absent, counted, turned}
 use Rattle.tray.specs.FlatOwes.{place-within, room-parts}
 use Rattle.tray.proofs.Places.{places-apart, put-there, put-elsewhere}
 
@@ -100,14 +101,21 @@ module _ (t : Flat) (c : ℕ) (h : c < flatOf t .columns) where
   in-shape : c < t .shape .columns
   in-shape = rw fit at h
 
-  in-table : length (t .table) ≡ flatColumns → c < length (t .table)
+  -- the tray with another table, and with another memory
+  abbrev pub with-table : List Column → Meaning
+  with-table table = flatMeaning (t .shape .columns) (t .shape .rows) (t .shape .size) table (now (t .cells))
+
+  abbrev pub with-cells : List ℕ → Meaning
+  with-cells cells = flatMeaning (t .shape .columns) (t .shape .rows) (t .shape .size) (t .table .columns) cells
+
+  in-table : length (t .table .columns) ≡ flatColumns → c < length (t .table .columns)
   in-table held = let room = room-parts (t .shape .columns) (t .shape .rows) (t .shape .size) (length (now (t .cells))) fit in omega (arith, in-shape, room .0)
 
-  pub read-counted : length (t .table) ≡ flatColumns → flatOf (withColumn t c counted) ≡ tallied (flatOf t) c
-  read-counted held = flat-tallied (t .shape .columns) (t .shape .rows) (t .shape .size) (t .table) (now (t .cells)) fit c in-shape (in-table held)
+  pub read-counted : length (t .table .columns) ≡ flatColumns → with-table (set (t .table .columns) c (counted (getD (t .table .columns) c absent))) ≡ tallied (flatOf t) c
+  read-counted held = flat-tallied (t .shape .columns) (t .shape .rows) (t .shape .size) (t .table .columns) (now (t .cells)) fit c in-shape (in-table held)
 
-  pub flag-turned : (on : Bool) → length (t .table) ≡ flatColumns → flatOf (withColumn t c (λ x. turned x on)) ≡ switched (flatOf t) c on
-  flag-turned on held = flat-switched (t .shape .columns) (t .shape .rows) (t .shape .size) (t .table) (now (t .cells)) fit c in-shape (in-table held) on
+  pub flag-turned : (on : Bool) → length (t .table .columns) ≡ flatColumns → with-table (set (t .table .columns) c (turned (getD (t .table .columns) c absent) on)) ≡ switched (flatOf t) c on
+  flag-turned on held = flat-switched (t .shape .columns) (t .shape .rows) (t .shape .size) (t .table .columns) (now (t .cells)) fit c in-shape (in-table held) on
 
   -- and a block read and written in its memory
   module _ (r : ℕ) (k : r < flatOf t .rows) where
@@ -117,9 +125,9 @@ module _ (t : Flat) (c : ℕ) (h : c < flatOf t .columns) where
     pub block-read : flatOf t .block c r ≡ take (flatOf t .size) (drop (startOf (flatOf t .rows) (flatOf t .size) c r) (now (t .cells)))
     block-read = simp (fit, lt-ltb c (t .shape .columns) in-shape, lt-ltb r (t .shape .rows) hr)
 
-    pub block-written : (bytes : List ℕ) → length bytes ≡ flatOf t .size → flatOf (withCells t (written (flatOf t) c r bytes (now (t .cells)))) ≡ stored (flatOf t) c r bytes
+    pub block-written : (bytes : List ℕ) → length bytes ≡ flatOf t .size → with-cells (written (flatOf t) c r bytes (now (t .cells))) ≡ stored (flatOf t) c r bytes
     block-written bytes e =
         let rows : flatOf t .rows ≡ t .shape .rows = rw fit in
         let size : flatOf t .size ≡ t .shape .size = rw fit in
-        ap₂ (λ n s. flatOf (withCells t (paste (now (t .cells)) (startOf n s c r) bytes s))) rows size
-        ∙ flat-stored (t .shape .columns) (t .shape .rows) (t .shape .size) (t .table) (now (t .cells)) fit c in-shape r bytes hr (e ∙ size)
+        ap₂ (λ n s. with-cells (paste (now (t .cells)) (startOf n s c r) bytes s)) rows size
+        ∙ flat-stored (t .shape .columns) (t .shape .rows) (t .shape .size) (t .table .columns) (now (t .cells)) fit c in-shape r bytes hr (e ∙ size)

@@ -1,4 +1,4 @@
 pub mod Verdicts
-mod Places
+pub mod Places
 mod FlatSteps
 mod Halves

@@ -12,7 +12,8 @@ use Rattle.std.proofs.shelf.Tests.{leb-true, lt-ltb, cond-both, and-parts}
 use Rattle.tray.specs.declared.flat.Flat.{Flat}
 use Rattle.tray.specs.Limits.{flatColumns, flatRows, flatSize}
 use Rattle.tray.specs.Meaning.{Sized, Wraps, empty}
-use Rattle.tray.specs.FlatTrays.{absent, hasRoom, roomy, flatOf}
+use Rattle.tray.specs.FlatColumns.{absent}
+use Rattle.tray.specs.FlatTrays.{hasRoom, roomy, flatOf}
 
 -- The block of a place lies within the memory.
 pub place-within : (columns rows size c r n : ℕ) → c < columns → r < rows → columns * rows * size ≤ n → (c * rows + r) * size + size ≤ n
@@ -31,7 +32,7 @@ room-parts c r s n e =
 pub flat-sized : (t : Flat) → Sized (flatOf t)
 flat-sized t =
     let s = t .shape in
-    cond-both _ (roomy (s .columns) (s .rows) (s .size) (t .table) (now (t .cells))) empty Sized
+    cond-both _ (roomy (s .columns) (s .rows) (s .size) (t .table .columns) (now (t .cells))) empty Sized
     (λ e c r hc hr.
     let room = room-parts (s .columns) (s .rows) (s .size) (length (t .cells .now)) e in
     let within = place-within (s .columns) (s .rows) (s .size) c r (length (t .cells .now)) hc hr (room .3) in
@@ -41,6 +42,6 @@ flat-sized t =
 pub flat-wraps : (t : Flat) → Wraps (flatOf t)
 flat-wraps t =
     let s = t .shape in
-    cond-both _ (roomy (s .columns) (s .rows) (s .size) (t .table) (now (t .cells))) empty Wraps
-    (λ _ c. cond-both (ltb c (s .columns)) (getD (t .table) c absent .reads % 2 ^ 32) 0 (λ n. n < 2 ^ 32) (λ _. omega arith) (λ _. omega arith))
+    cond-both _ (roomy (s .columns) (s .rows) (s .size) (t .table .columns) (now (t .cells))) empty Wraps
+    (λ _ c. cond-both (ltb c (s .columns)) (getD (t .table .columns) c absent .reads % 2 ^ 32) 0 (λ n. n < 2 ^ 32) (λ _. omega arith) (λ _. omega arith))
     (λ _ c. omega arith)

@@ -5,24 +5,13 @@ use mathlib.Core.List.{List, []}
 use Prim.Native.Nat.{ℕ, _+_, _*_, _%_, _^_}
 use denote.Ref.{now}
 use lib.Dec.{ltb, leb}
-use lib.ListN.{length, getD, set, take, drop}
+use lib.ListN.{length, getD, take, drop}
 use Rattle.std.specs.shelf.Lists.{paste}
 use Rattle.tray.specs.declared.flat.Flat.{Flat}
-use Rattle.tray.specs.declared.flat.table.Column.{Column}
+use Rattle.tray.specs.declared.flat.columns.Column.{Column}
+use Rattle.tray.specs.FlatColumns.{absent}
 use Rattle.tray.specs.Limits.{flatColumns, flatRows, flatSize}
 use Rattle.tray.specs.Meaning.{Meaning, empty}
-
--- A column's record after one more read, counted modulo 2^32.
-abbrev pub counted : Column → Column
-counted x = record { answering = x .answering; reads = (x .reads + 1) % 2 ^ 32 }
-
--- A column's record with its flag set.
-abbrev pub turned : Column → Bool → Column
-turned x on = record { answering = on; reads = x .reads }
-
--- What stands for a record past the table's end.
-abbrev pub absent : Column
-absent = record { answering = false; reads = 0 }
 
 -- Where in the memory the block of column c and row r starts.
 abbrev pub startOf : ℕ → ℕ → ℕ → ℕ → ℕ
@@ -52,7 +41,7 @@ abbrev pub flatMeaning : ℕ → ℕ → ℕ → List Column → List ℕ → Me
 flatMeaning columns rows size table cells = cond (hasRoom columns rows size (length cells)) (roomy columns rows size table cells) empty
 
 abbrev pub flatOf : Flat → Meaning
-flatOf t = flatMeaning (t .shape .columns) (t .shape .rows) (t .shape .size) (t .table) (now (t .cells))
+flatOf t = flatMeaning (t .shape .columns) (t .shape .rows) (t .shape .size) (t .table .columns) (now (t .cells))
 
 -- A new flat tray that has room: all its columns answer, none was read, and the bytes of the memory
 -- are its blocks.
@@ -68,14 +57,6 @@ fresh columns rows size cells = record {
 
 abbrev pub newFlat : ℕ → ℕ → ℕ → List ℕ → Meaning
 newFlat columns rows size cells = cond (hasRoom columns rows size (length cells)) (fresh columns rows size cells) empty
-
--- The same tray with one record of its table changed,
-abbrev pub withColumn : Flat → ℕ → (Column → Column) → Flat
-withColumn t c f = record { shape = t .shape; table = set (t .table) c (f (getD (t .table) c absent)); cells = t .cells }
-
--- and with other bytes in the same memory.
-abbrev pub withCells : Flat → List ℕ → Flat
-withCells t bytes = record { shape = t .shape; table = t .table; cells = record { ptr = t .cells .ptr; name = t .cells .name; now = bytes } }
 
 -- What a memory holds once a block is written at a place of a flat tray m that lies in it.
 abbrev pub written : Meaning → ℕ → ℕ → List ℕ → List ℕ → List ℕ

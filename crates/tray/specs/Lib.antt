@@ -2,6 +2,7 @@ pub mod Refusals
 pub mod Meaning
 pub mod Shapes
 pub mod Limits
+pub mod FlatColumns
 pub mod FlatTrays
 pub mod FlatOwes
 pub mod SplitTrays

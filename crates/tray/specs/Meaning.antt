@@ -47,6 +47,14 @@ verdict m c r n =
     (Err (trayFault refusal.RowTooHigh (Some c) (Some r))))
     (Err (trayFault refusal.ColumnTooHigh (Some c) (Some r)))
 
+-- What it takes for a read or a write to be accepted: a place of the shape, a buffer of one block,
+-- and a column that answers.
+pub record Ready (m : Meaning) (c r n : ℕ) : Type 0 where
+  pub column : c < m .columns
+  pub row : r < m .rows
+  pub size : n ≡ m .size
+  pub answers : m .answers c ≡ true
+
 -- What a question about column c answers, where v is the answer for a column of the tray.
 abbrev pub asked : {X : Type 0} → Meaning → ℕ → X → Result X Fault
 asked m c v = cond (ltb c (m .columns)) (Ok v) (Err (trayFault refusal.ColumnTooHigh (Some c) None))
@@ -67,3 +75,14 @@ switched m c on = record { columns = m .columns; rows = m .rows; size = m .size;
 abbrev pub ifOk : {X Y Z : Type 0} → Result X Y → Z → Z → Z
 ifOk (Ok _) x y = x
 ifOk (Err _) x y = y
+
+-- What a read and a write of a tray do: what they answer, what the tray m comes to mean, and what the
+-- buffer of the read holds.
+pub record Reads (m next : Meaning) (c r : ℕ) (was buffer : List ℕ) (answer : Result (Unit {0}) Fault) : Type 0 where
+  pub value : answer ≡ verdict m c r (length was)
+  pub after : next ≡ ifOk answer (tallied m c) m
+  pub bytes : buffer ≡ ifOk answer (m .block c r) was
+
+pub record Writes (m next : Meaning) (c r : ℕ) (bytes : List ℕ) (answer : Result (Unit {0}) Fault) : Type 0 where
+  pub value : answer ≡ verdict m c r (length bytes)
+  pub after : next ≡ ifOk answer (stored m c r bytes) m

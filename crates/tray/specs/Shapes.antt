@@ -6,5 +6,5 @@ use Rattle.tray.specs.Meaning.{Meaning}
 
 -- A tray of this shape in which every column answers. What a call on it answers depends on the
 -- shape alone.
-abbrev pub answering : Shape → Meaning
-answering s = record { columns = s .columns; rows = s .rows; size = s .size; answers = λ _. true; block = λ _ _. []; tally = λ _. 0 }
+abbrev pub allAnswer : Shape → Meaning
+allAnswer s = record { columns = s .columns; rows = s .rows; size = s .size; answers = λ _. true; block = λ _ _. []; tally = λ _. 0 }

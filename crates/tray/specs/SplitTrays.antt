@@ -1,6 +1,6 @@
 -- What a split tray means: two trays side by side, the left one's columns first.
 use mathlib.Core.Bool.{Bool, cond, _&&_}
-use Prim.Native.Nat.{ℕ, _+_, _-_}
+use Prim.Native.Nat.{ℕ, _+_, _-_, _≤_, _<_}
 use lib.Dec.{eqb, ltb, leb}
 use Rattle.std.specs.declared.result.Result.{Result}
 use Rattle.std.specs.declared.result.Result.the-variants.{Ok, Err}
@@ -27,6 +27,15 @@ matching l r = eqb (l .rows) (r .rows) && (eqb (l .size) (r .size) && leb (l .co
 -- A split tray; it is empty where its halves do not match.
 abbrev pub splitOf : Meaning → Meaning → Meaning
 splitOf l r = cond (matching l r) (beside l r) empty
+
+-- A column of a split tray that is not empty, in its left half and in its right half.
+pub record InLeft (l r : Meaning) (c : ℕ) : Type 0 where
+  pub whole : c < splitOf l r .columns
+  pub left : c < l .columns
+
+pub record InRight (l r : Meaning) (c : ℕ) : Type 0 where
+  pub whole : c < splitOf l r .columns
+  pub right : l .columns ≤ c
 
 -- An answer whose fault is told of column c.
 abbrev pub answerAt : {X : Type 0} → Result X Fault → ℕ → Result X Fault

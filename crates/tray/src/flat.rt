@@ -2,19 +2,18 @@
 ghost use mathlib.Core.Path.{_≡_};
 ghost use Prim.Native.Nat.{_+_, _<_, _≤_};
 ghost use denote.Ref.{name};
-ghost use lib.ListN.{length, take, drop, getD};
-ghost use Rattle.std.specs.shelf.Lists.{paste};
-ghost use Rattle.tray.specs.Limits.{flatColumns};
-ghost use Rattle.tray.specs.Meaning.{verdict, asked, tallied, stored, switched, ifOk};
-ghost use Rattle.tray.specs.FlatTrays.{hasRoom, startOf, counted, turned, withColumn, withCells, written, flatOf, newFlat};
+ghost use lib.ListN.{length};
+ghost use Rattle.std.specs.Vec.{made};
+ghost use Rattle.tray.specs.Meaning.{Ready, verdict, asked, tallied, stored, switched, ifOk};
+ghost use Rattle.tray.specs.FlatTrays.{hasRoom, startOf, written, flatOf, newFlat};
 ghost use Rattle.tray.specs.FlatOwes.{flat-sized, flat-wraps};
 use crate::fault::Fault;
 use crate::trays::Shape;
 use crate::trays::Tray;
 
-mod table;
+mod columns;
 
-use table::Column;
+use columns::Table;
 
 // The limits of a flat tray.
 pub const MAX_COLUMNS: u32 = 13;
@@ -28,7 +27,7 @@ pub const MAX_SIZE: u32 = 512;
 #[derive(Drop)]
 pub struct Flat<'a> {
     shape: Shape,
-    table: [Column; MAX_COLUMNS as usize],
+    table: Table,
     cells: &'a mut [u8],
 }
 
@@ -39,7 +38,8 @@ fn has_room(shape: Shape, len: usize) -> bool
     if shape.columns > MAX_COLUMNS || shape.rows > MAX_ROWS || shape.size > MAX_SIZE {
         return false;
     }
-    shape.columns as usize * shape.rows as usize * shape.size as usize <= len
+    let bytes = shape.columns as usize * shape.rows as usize * shape.size as usize;
+    bytes <= len
 }
 
 impl<'a> Flat<'a> {
@@ -55,7 +55,7 @@ impl<'a> Flat<'a> {
             rows,
             size,
         };
-        let table = [Column::NEW; MAX_COLUMNS as usize];
+        let table = Table::NEW;
         Flat {
             shape,
             table,
@@ -77,10 +77,11 @@ impl<'a> Flat<'a> {
 
     // Whether a read or a write with `len` bytes is accepted.
     fn judge(&self, column: u32, row: u32, len: usize) -> Result<(), Fault>
-        ensures { λ r. ⌜ r ≡ verdict (flatOf (now (self .entry))) column row len ⌝ }
+        ensures value { λ r. ⌜ r ≡ verdict (flatOf (now (self .entry))) column row len ⌝ }
+        ensures ready { λ r. ⌜ made r (λ _. Ready (flatOf (now (self .entry))) column row len) ⌝ }
     {
         self.shape().check_place(column, row, len)?;
-        if !self.table[column as usize].answers() {
+        if !self.table.answers(column) {
             return Err(Fault::silent(column));
         }
         Ok(())
@@ -95,40 +96,46 @@ impl<'a> Flat<'a> {
         (column as usize * self.shape.rows as usize + row as usize) * self.shape.size as usize
     }
 
-    // Fills a buffer with the bytes from `at` on.
-    fn load(&self, at: usize, buffer: &mut [u8])
-        requires { ⌜ at + length (now buffer) ≤ length (now (now self .cells)) ⌝ }
-        ensures { λ _. ⌜ now (buffer .exit) ≡ take (length (now (buffer .entry))) (drop at (now (now (self .entry) .cells))) ⌝ }
+    // Fills a buffer with the block of a place.
+    fn load(&self, column: u32, row: u32, buffer: &mut [u8])
+        requires { ⌜ Ready (flatOf (now self)) column row (length (now buffer)) ⌝ }
+        ensures { λ _. ⌜ now (buffer .exit) ≡ flatOf (now (self .entry)) .block column row ⌝ }
     {
+        let at = self.start(column, row);
         let end = at + buffer.len();
         buffer.copy_from_slice(&self.cells[at..end]);
     }
 
-    // Puts bytes into the memory from `at` on.
-    fn store(&mut self, at: usize, bytes: &[u8])
-        requires { ⌜ at + length (now bytes) ≤ length (now (now self .cells)) ⌝ }
-        ensures { λ _. ⌜ now (self .exit) ≡ withCells (now (self .entry)) (paste (now (now (self .entry) .cells)) at (now (bytes .entry)) (length (now (bytes .entry)))) ⌝ }
+    // Puts a block into the memory at a place.
+    fn store(&mut self, column: u32, row: u32, block: &[u8])
+        requires { ⌜ Ready (flatOf (now self)) column row (length (now block)) ⌝ }
+        ensures after { λ _. ⌜ flatOf (now (self .exit)) ≡ stored (flatOf (now (self .entry))) column row (now (block .entry)) ⌝ }
+        ensures cells { λ _. ⌜ now (now (self .exit) .cells) ≡ written (flatOf (now (self .entry))) column row (now (block .entry)) (now (now (self .entry) .cells)) ⌝ }
+        ensures lender { λ _. ⌜ name (now (self .exit) .cells) ≡ name (now (self .entry) .cells) ⌝ }
     {
-        let end = at + bytes.len();
-        self.cells[at..end].copy_from_slice(bytes);
+        let at = self.start(column, row);
+        let end = at + block.len();
+        self.cells[at..end].copy_from_slice(block);
     }
 
     // Counts a read in a column's record.
     fn count(&mut self, column: u32)
-        requires { ⌜ column < flatColumns ⌝ }
-        ensures held { λ _. ⌜ length (now (self .entry) .table) ≡ flatColumns ⌝ }
-        ensures after { λ _. ⌜ now (self .exit) ≡ withColumn (now (self .entry)) column counted ⌝ }
+        requires { ⌜ column < flatOf (now self) .columns ⌝ }
+        ensures after { λ _. ⌜ flatOf (now (self .exit)) ≡ tallied (flatOf (now (self .entry))) column ⌝ }
+        ensures cells { λ _. ⌜ now (now (self .exit) .cells) ≡ now (now (self .entry) .cells) ⌝ }
+        ensures lender { λ _. ⌜ name (now (self .exit) .cells) ≡ name (now (self .entry) .cells) ⌝ }
     {
-        self.table[column as usize].count();
+        self.table.count(column);
     }
 
     // Sets the flag in a column's record.
     fn turn(&mut self, column: u32, on: bool)
-        requires { ⌜ column < flatColumns ⌝ }
-        ensures held { λ _. ⌜ length (now (self .entry) .table) ≡ flatColumns ⌝ }
-        ensures after { λ _. ⌜ now (self .exit) ≡ withColumn (now (self .entry)) column (λ x. turned x on) ⌝ }
+        requires { ⌜ column < flatOf (now self) .columns ⌝ }
+        ensures after { λ _. ⌜ flatOf (now (self .exit)) ≡ switched (flatOf (now (self .entry))) column on ⌝ }
+        ensures cells { λ _. ⌜ now (now (self .exit) .cells) ≡ now (now (self .entry) .cells) ⌝ }
+        ensures lender { λ _. ⌜ name (now (self .exit) .cells) ≡ name (now (self .entry) .cells) ⌝ }
     {
-        self.table[column as usize].switch(on);
+        self.table.switch(column, on);
     }
 }
 
@@ -151,12 +158,12 @@ pub impl<'a> Tray for Flat<'a> as FlatTray {
 
     fn answers(&self, column: u32) -> Result<bool, Fault> {
         self.shape().check_column(column)?;
-        Ok(self.table[column as usize].answers())
+        Ok(self.table.answers(column))
     }
 
     fn tally(&self, column: u32) -> Result<u32, Fault> {
         self.shape().check_column(column)?;
-        Ok(self.table[column as usize].tally())
+        Ok(self.table.tally(column))
     }
 
     fn read(&mut self, column: u32, row: u32, buffer: &mut [u8]) -> Result<(), Fault>
@@ -167,8 +174,7 @@ pub impl<'a> Tray for Flat<'a> as FlatTray {
         ensures lender { λ _. ⌜ name (now (self .exit) .cells) ≡ name (now (self .entry) .cells) ⌝ }
     {
         self.judge(column, row, buffer.len())?;
-        let at = self.start(column, row);
-        self.load(at, buffer);
+        self.load(column, row, buffer);
         self.count(column);
         Ok(())
     }
@@ -180,8 +186,7 @@ pub impl<'a> Tray for Flat<'a> as FlatTray {
         ensures lender { λ _. ⌜ name (now (self .exit) .cells) ≡ name (now (self .entry) .cells) ⌝ }
     {
         self.judge(column, row, buffer.len())?;
-        let at = self.start(column, row);
-        self.store(at, buffer);
+        self.store(column, row, buffer);
         Ok(())
     }
 }

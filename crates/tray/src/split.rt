@@ -1,6 +1,7 @@
 // The split tray: two trays of any make side by side, the left one's columns first.
 ghost use mathlib.Core.Path.{_≡_};
-ghost use Rattle.tray.specs.SplitTrays.{splitOf, answerAt};
+ghost use Rattle.tray.specs.SplitTrays.{splitOf, answerAt, InLeft, InRight};
+ghost use Rattle.tray.specs.Meaning.{Reads, Writes};
 ghost use Rattle.tray.specs.SplitOwes.{split-sized, split-wraps};
 use crate::fault::Fault;
 use crate::trays::Shape;
@@ -24,6 +25,40 @@ impl<L: Tray, R: Tray> Split<L, R> {
         ensures right { λ r. ⌜ r .right ≡ right ⌝ }
     {
         Split { left, right }
+    }
+
+    // A read of a column of the left half, and of one of the right half, as a read of the whole.
+    fn read_left(&mut self, column: u32, row: u32, buffer: &mut [u8]) -> Result<(), Fault>
+        requires { ⌜ InLeft (L·Tray .meaning (now self .left)) (R·Tray .meaning (now self .right)) column ⌝ }
+        ensures { λ r. ⌜ Reads (splitOf (L·Tray .meaning (now (self .entry) .left)) (R·Tray .meaning (now (self .entry) .right))) (splitOf (L·Tray .meaning (now (self .exit) .left)) (R·Tray .meaning (now (self .exit) .right))) column row (now (buffer .entry)) (now (buffer .exit)) r ⌝ }
+    {
+        self.left.read(column, row, buffer)
+    }
+
+    fn read_right(&mut self, column: u32, row: u32, buffer: &mut [u8]) -> Result<(), Fault>
+        requires { ⌜ InRight (L·Tray .meaning (now self .left)) (R·Tray .meaning (now self .right)) column ⌝ }
+        ensures { λ r. ⌜ Reads (splitOf (L·Tray .meaning (now (self .entry) .left)) (R·Tray .meaning (now (self .entry) .right))) (splitOf (L·Tray .meaning (now (self .exit) .left)) (R·Tray .meaning (now (self .exit) .right))) column row (now (buffer .entry)) (now (buffer .exit)) r ⌝ }
+    {
+        let left = self.left.shape().columns;
+        let answer = self.right.read(column - left, row, buffer);
+        renamed(answer, column)
+    }
+
+    // The same of a write.
+    fn write_left(&mut self, column: u32, row: u32, buffer: &[u8]) -> Result<(), Fault>
+        requires { ⌜ InLeft (L·Tray .meaning (now self .left)) (R·Tray .meaning (now self .right)) column ⌝ }
+        ensures { λ r. ⌜ Writes (splitOf (L·Tray .meaning (now (self .entry) .left)) (R·Tray .meaning (now (self .entry) .right))) (splitOf (L·Tray .meaning (now (self .exit) .left)) (R·Tray .meaning (now (self .exit) .right))) column row (now (buffer .entry)) r ⌝ }
+    {
+        self.left.write(column, row, buffer)
+    }
+
+    fn write_right(&mut self, column: u32, row: u32, buffer: &[u8]) -> Result<(), Fault>
+        requires { ⌜ InRight (L·Tray .meaning (now self .left)) (R·Tray .meaning (now self .right)) column ⌝ }
+        ensures { λ r. ⌜ Writes (splitOf (L·Tray .meaning (now (self .entry) .left)) (R·Tray .meaning (now (self .entry) .right))) (splitOf (L·Tray .meaning (now (self .exit) .left)) (R·Tray .meaning (now (self .exit) .right))) column row (now (buffer .entry)) r ⌝ }
+    {
+        let left = self.left.shape().columns;
+        let answer = self.right.write(column - left, row, buffer);
+        renamed(answer, column)
     }
 }
 
@@ -81,21 +116,19 @@ pub impl<L: Tray, R: Tray> Tray for Split<L, R> as SplitTray {
 
     fn read(&mut self, column: u32, row: u32, buffer: &mut [u8]) -> Result<(), Fault> {
         self.shape().check_place(column, row, buffer.len())?;
-        let left = self.left.shape().columns;
-        if column < left {
-            return self.left.read(column, row, buffer);
+        if column < self.left.shape().columns {
+            self.read_left(column, row, buffer)
+        } else {
+            self.read_right(column, row, buffer)
         }
-        let answer = self.right.read(column - left, row, buffer);
-        renamed(answer, column)
     }
 
     fn write(&mut self, column: u32, row: u32, buffer: &[u8]) -> Result<(), Fault> {
         self.shape().check_place(column, row, buffer.len())?;
-        let left = self.left.shape().columns;
-        if column < left {
-            return self.left.write(column, row, buffer);
+        if column < self.left.shape().columns {
+            self.write_left(column, row, buffer)
+        } else {
+            self.write_right(column, row, buffer)
         }
-        let answer = self.right.write(column - left, row, buffer);
-        renamed(answer, column)
     }
 }

@@ -1,8 +1,10 @@
 // Trays: stores of blocks in columns and rows, known by what they mean and not by how they are made.
 ghost use mathlib.Core.Path.{_≡_};
+ghost use Prim.Native.Nat.{_<_};
 ghost use lib.ListN.{length};
-ghost use Rattle.tray.specs.Meaning.{Meaning, Sized, Wraps, verdict, asked, tallied, stored, ifOk};
-ghost use Rattle.tray.specs.Shapes.{answering};
+ghost use Rattle.std.specs.Vec.{made};
+ghost use Rattle.tray.specs.Meaning.{Meaning, Sized, Wraps, Ready, verdict, asked, tallied, stored, ifOk};
+ghost use Rattle.tray.specs.Shapes.{allAnswer};
 use crate::fault::Fault;
 use crate::fault::Refusal;
 
@@ -24,7 +26,8 @@ impl Shape {
 
     // The check of a question: is there such a column?
     pub fn check_column(self, column: u32) -> Result<(), Fault>
-        ensures { λ r. ⌜ r ≡ asked (answering self) column tt ⌝ }
+        ensures value { λ r. ⌜ r ≡ asked (allAnswer self) column tt ⌝ }
+        ensures known { λ r. ⌜ made r (λ _. column < self .columns) ⌝ }
     {
         if column >= self.columns {
             return Err(Fault::tray(Refusal::ColumnTooHigh, Some(column), None));
@@ -35,7 +38,8 @@ impl Shape {
     // The checks of a read or a write in a tray of this shape, but for the column's silence: the
     // column, the row, and a buffer of `len` bytes.
     pub fn check_place(self, column: u32, row: u32, len: usize) -> Result<(), Fault>
-        ensures { λ r. ⌜ r ≡ verdict (answering self) column row len ⌝ }
+        ensures value { λ r. ⌜ r ≡ verdict (allAnswer self) column row len ⌝ }
+        ensures ready { λ r. ⌜ made r (λ _. Ready (allAnswer self) column row len) ⌝ }
     {
         if column >= self.columns {
             return Err(Fault::tray(Refusal::ColumnTooHigh, Some(column), Some(row)));

@@ -1,3 +1,5 @@
-// Trays in use. The functions here are proved examples of what a caller knows of a tray; the tests
-// run the makes at the edges of their limits.
+// Trays in use. `keeping` and `counting` are proved examples of what a caller knows of a tray; the
+// tests of `edges` run the makes.
+pub mod counting;
+pub mod edges;
 pub mod keeping;

@@ -1,0 +1,2 @@
+mod Stock
+mod Steps

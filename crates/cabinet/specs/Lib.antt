@@ -1,0 +1,3 @@
+pub mod Drawers
+pub mod Cabinets
+pub mod Owes
