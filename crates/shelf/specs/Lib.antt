@@ -9,3 +9,4 @@ pub mod Layouts
 pub mod Slots
 pub mod Reading
 pub mod Solving
+pub mod Recovering

@@ -4,6 +4,7 @@ mod checks;
 pub mod drill;
 mod gather;
 pub mod layout;
+mod recover;
 pub mod roster;
 mod slots;
 mod solve;
