@@ -13,3 +13,4 @@ pub mod Holding
 pub mod Gathering
 pub mod Outs
 pub mod Spreading
+pub mod Settling
