@@ -5,6 +5,7 @@ pub mod Drilling
 pub mod Promised
 pub mod Checked
 pub mod Frames
+pub mod Readied
 pub mod Wiping
 pub mod Laying
 pub mod Indices
