@@ -15,3 +15,5 @@ pub mod Gathering
 pub mod Outs
 pub mod Spreading
 pub mod Settling
+pub mod Ranks
+pub mod Finding
