@@ -17,3 +17,4 @@ pub mod Spreading
 pub mod Settling
 pub mod Ranks
 pub mod Finding
+pub mod Recovered
