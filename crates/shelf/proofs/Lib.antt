@@ -2,3 +2,4 @@ pub mod Indices
 pub mod Adding
 pub mod Holding
 pub mod Gathering
+pub mod Regaining

@@ -2,3 +2,4 @@ pub mod Blocks
 pub mod Missing
 pub mod Slots
 pub mod Reading
+pub mod Regaining
