@@ -3,3 +3,4 @@ pub mod Adding
 pub mod Holding
 pub mod Gathering
 pub mod Regaining
+pub mod Halfway

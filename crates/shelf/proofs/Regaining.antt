@@ -48,9 +48,9 @@ alone-reads k size s m m′ j f h e a =
       width = a .width;
       column = a .column;
       heard = record {
-          shape = record { wide = a .heard .shape .wide; tall = a .heard .shape .tall; deep = a .heard .shape .deep };
-          answers = a .heard .answers;
-        };
+        shape = record { wide = a .heard .shape .wide; tall = a .heard .shape .tall; deep = a .heard .shape .deep };
+        answers = a .heard .answers;
+      };
     })
 
 -- nor of the work space's room
@@ -205,7 +205,7 @@ module _ (k : ℕ) (right : Rule) (law : Tournament k right) (size : ℕ) (m : M
       (but-more k right i j (rowOf i (below j k (held m b))) (spot i j (by-row k (held m b) j i)) (rowOf i (with-row k (held m b) j))
       (λ i′ c _ ck. row-all i j (held m b) k i′ c ck) n nl)
 
-  pub row-found : RowFound k right size j m i w₀ w₃
+  pub row-found : RowFound k right size j (held m) i w₀ w₃
   row-found =
       record {
         here = λ b bl. passed .row b i bl il ∙ xor-zero-r (rowSlot size w₂ b i) ∙ by-sum b bl;

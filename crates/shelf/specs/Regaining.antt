@@ -42,9 +42,10 @@ halfOf k j c = cond (ltb c (k + 2) && not (eqb c j)) (2 ^ (k - 2)) 0
 abbrev pub soleSlot : ℕ → ℕ → ℕ → ℕ
 soleSlot k j i = cond (dark i j) i (rows k + meets i j)
 
-abbrev pub Found : ℕ → Rule → ℕ → ℕ → Meaning → List ℕ → Type 0
-Found k right size j m work =
-    (i b : ℕ) → i < rows k → b < size → slot size work (soleSlot k j i) b ≡ regained k right (held m b) j i
+-- every row of it lies in its slot, where M is what the columns hold, lane by lane
+abbrev pub Found : ℕ → Rule → ℕ → ℕ → (ℕ → Blocks) → List ℕ → Type 0
+Found k right size j M work =
+    (i b : ℕ) → i < rows k → b < size → slot size work (soleSlot k j i) b ≡ regained k right (M b) j i
 
 -- ---- one row
 
@@ -66,25 +67,25 @@ unless m i j c b = only (not (eqb c j)) (held m b i c)
 
 -- row i of the column lies in the slot of the row, and all data of the row are added to the lines but for the one
 -- through the place (i, j)
-pub record RowFound (k : ℕ) (right : Rule) (size j : ℕ) (m : Meaning) (i : ℕ) (was after : List ℕ) : Type 0 where
-  pub here : (b : ℕ) → b < size → rowSlot size after b i ≡ by-row k (held m b) j i
+pub record RowFound (k : ℕ) (right : Rule) (size j : ℕ) (M : ℕ → Blocks) (i : ℕ) (was after : List ℕ) : Type 0 where
+  pub here : (b : ℕ) → b < size → rowSlot size after b i ≡ by-row k (M b) j i
   pub rest : (b r : ℕ) → b < size → r < rows k → r ≢ i → rowSlot size after b r ≡ rowSlot size was b r
   pub line : (b n : ℕ) → b < size → n < rows k
-      → lineSlot k size after b n ≡ bitXor (lineSlot k size was b n) (linesBut k right i j (rowOf i (with-row k (held m b) j)) n)
+      → lineSlot k size after b n ≡ bitXor (lineSlot k size was b n) (linesBut k right i j (rowOf i (with-row k (M b) j)) n)
 
 -- ---- row after row
 
 -- the lines of the white rows below n are read
-abbrev pub LinesRead : ℕ → ℕ → ℕ → Meaning → ℕ → List ℕ → Type 0
-LinesRead k size j m n work =
-    (b i : ℕ) → b < size → i < n → dark i j ≡ false → lineSlot k size work b (meets i j) ≡ held m b (meets i j) (k + 1)
+abbrev pub LinesRead : ℕ → ℕ → ℕ → (ℕ → Blocks) → ℕ → List ℕ → Type 0
+LinesRead k size j M n work =
+    (b i : ℕ) → b < size → i < n → dark i j ≡ false → lineSlot k size work b (meets i j) ≡ M b (meets i j) (k + 1)
 
 -- the rows below n that are dark for j
 unfoldable pub darkBelow : ℕ → ℕ → Blocks → Blocks
 darkBelow j n E i c = only (ltb i n && dark i j) (E i c)
 
 -- the dark rows below n are found, and their data are added to the lines of the white rows
-pub record Halfway (k : ℕ) (right : Rule) (size j : ℕ) (m : Meaning) (n : ℕ) (work : List ℕ) : Type 0 where
-  pub row : (b i : ℕ) → b < size → i < n → dark i j ≡ true → rowSlot size work b i ≡ by-row k (held m b) j i
+pub record Halfway (k : ℕ) (right : Rule) (size j : ℕ) (M : ℕ → Blocks) (n : ℕ) (work : List ℕ) : Type 0 where
+  pub row : (b i : ℕ) → b < size → i < n → dark i j ≡ true → rowSlot size work b i ≡ by-row k (M b) j i
   pub line : (b i : ℕ) → b < size → i < rows k → dark i j ≡ false
-      → lineSlot k size work b (meets i j) ≡ bitXor (held m b (meets i j) (k + 1)) (butterfly k right (darkBelow j n (with-row k (held m b) j)) (meets i j))
+      → lineSlot k size work b (meets i j) ≡ bitXor (M b (meets i j) (k + 1)) (butterfly k right (darkBelow j n (with-row k (M b) j)) (meets i j))

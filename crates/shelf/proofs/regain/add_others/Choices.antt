@@ -15,4 +15,4 @@ abbrev pub Inv-loop-column : given.InvT-loop-column
 Inv-loop-column g l =
     (g .T·Tray .meaning (l .tray) ≡ afterReads (g .T·Tray .meaning (l .entry .tray)) (onceBelow (l .lost) (l .column)))
     × Plus (l .k) (length (l .entry .block)) (l .entry .work) (λ b r. only (eqb r (l .row .0)) (others (l .column) (l .lost) (held (g .T·Tray .meaning (l .entry .tray)) b (l .row .0))))
-        (λ b. linesBut (l .k) (published (l .k)) (l .row .0) (l .lost) (rowOf (l .row .0) (below (l .lost) (l .column) (held (g .T·Tray .meaning (l .entry .tray)) b)))) (l .work)
+    (λ b. linesBut (l .k) (published (l .k)) (l .row .0) (l .lost) (rowOf (l .row .0) (below (l .lost) (l .column) (held (g .T·Tray .meaning (l .entry .tray)) b)))) (l .work)
