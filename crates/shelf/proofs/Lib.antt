@@ -4,3 +4,4 @@ pub mod Holding
 pub mod Gathering
 pub mod Regaining
 pub mod Halfway
+pub mod OneBlock
