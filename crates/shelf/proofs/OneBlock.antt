@@ -18,9 +18,11 @@ use Rattle.code.specs.Neighbours.{Tournament}
 use Rattle.code.specs.Lines.{takes}
 use Rattle.code.proofs.Xor.{only-xor, only-true, only-false, sum-same, sum-xor, sum-one, sum-next}
 use Rattle.law.specs.Holding.{held, Shaped, Calm}
-use Rattle.law.specs.Hand.{others, by-row, with-row}
+use Rattle.law.specs.Hand.{others, by-row, with-row, Bytes}
+use Rattle.shelf.specs.Blocks.{Ready}
 use Rattle.shelf.specs.Slots.{slot, SlotAdded}
 use Rattle.shelf.specs.Regaining.{Alone, BytesAdded, wants, taken}
+use Rattle.shelf.proofs.Regaining.{may-read}
 
 -- ---- trays that differ in tallies alone
 
@@ -77,6 +79,14 @@ alone-calm k size s m m′ j e p a =
 pub calm-held : (m m′ : Meaning) → Calm m m′ → held m′ ≡ held m
 calm-held m m′ p = let h : (ℕ → ℕ → List ℕ) → ℕ → Blocks = λ f b r c. getD (f c r) b 0 in ap h (p .block)
 
+-- a block of another column may be read of each of them
+pub may-read-calm : (k size : ℕ) (m m′ : Meaning) (j : ℕ) → Calm m m′ → Alone k size m j
+    → (c i n : ℕ) → c < k + 2 → c ≢ j → i < rows k → n ≡ size → Ready m′ c i n
+may-read-calm k size m m′ j p a = may-read k size m′ j (alone-calm k size size m m′ j refl p a)
+
+pub is-other : (c j : ℕ) → not (eqb c j) ≡ true → c ≢ j
+is-other c j h e = true≢false (sym h ∙ ap not (sym (eq-true c j e)))
+
 -- ---- blocks
 
 -- a block is a work space of one slot
@@ -95,6 +105,11 @@ module _ (size : ℕ) (was : List ℕ) where
       → BytesAdded size was f mid → BytesAdded size mid g after → BytesAdded size was h after
   bytes-more f g h mid after e p q b bl =
       q b bl ∙ ap (λ x. bitXor x (g b)) (p b bl) ∙ xor-assoc (getD was b 0) (f b) (g b) ∙ ap (bitXor (getD was b 0)) (e b)
+
+-- a block with bytes added to it, by what the sums are
+pub bytes-all : (s size : ℕ) (was after : List ℕ) (f h : ℕ → ℕ) → s ≡ size → length after ≡ size → ((b : ℕ) → bitXor (getD was b 0) (f b) ≡ h b)
+    → BytesAdded s was f after → Bytes size after h
+bytes-all s size was after f h e l sums p = record { long = l; each = λ b bl. p b (omega arith) ∙ sums b }
 
 -- added as another tray with the same blocks holds it
 pub bytes-calm : (F : (ℕ → Blocks) → ℕ → ℕ) (m m′ : Meaning) (s size : ℕ) (was after : List ℕ) → Calm m m′ → s ≡ size
