@@ -1,23 +1,22 @@
 -- One block of a data column that alone is out, by its row or by its line.
-use mathlib.Core.Path.{_≡_, refl, sym, ap, ap₂, _∙_, subst₂}
+use mathlib.Core.Path.{_≡_, refl, sym, ap, ap₂, _∙_, subst, subst₂}
 use mathlib.Core.Logic.{_≢_}
 use mathlib.Core.Bool.{Bool, true, false, not, cond, _&&_, _||_, Bool·beq, true≢false}
 use mathlib.Core.List.{List}
 use Prim.Native.Nat.{ℕ, zero, suc, _+_, _*_, _<_}
 use native.Mathlib.Omega.{arith}
 use native.Mathlib.Nat.{zero-mul, zero-add}
-use native.Mathlib.Decide.{ℕ-discrete}
 use lib.Bits.{bitXor, xor-assoc, xor-self, xor-zero-r}
 use lib.Dec.{eqb}
 use lib.ListN.{length, getD}
-use borrow.Author.Tests.{eq-true, ne-false, eqb-true, eqb-false}
+use borrow.Author.Tests.{eq-true, ne-false, eqb-true}
 use Rattle.tray.specs.Meaning.{Meaning, tallied}
 use Rattle.code.specs.Numbers.{only, xorsum}
-use Rattle.code.specs.Code.{Blocks, Rule, rows, dark, meets, gives, beside}
+use Rattle.code.specs.Code.{Blocks, Rule, rows, dark, gives, beside}
 use Rattle.code.specs.Neighbours.{Tournament}
 use Rattle.code.specs.Lines.{takes}
-use Rattle.code.proofs.Xor.{only-xor, only-true, only-false, sum-same, sum-xor, sum-one, sum-next}
-use Rattle.law.specs.Holding.{held, Shaped, Calm}
+use Rattle.code.proofs.Xor.{only-xor, only-true, only-false, sum-same, sum-xor, sum-one}
+use Rattle.law.specs.Holding.{held, Calm}
 use Rattle.law.specs.Hand.{others, by-row, with-row, Bytes}
 use Rattle.shelf.specs.Blocks.{Ready}
 use Rattle.shelf.specs.Slots.{slot, SlotAdded}
@@ -26,25 +25,12 @@ use Rattle.shelf.proofs.Regaining.{may-read}
 
 -- ---- trays that differ in tallies alone
 
-pub calm-same : (m m′ : Meaning) → m′ ≡ m → Calm m m′
-calm-same m m′ e =
-    record {
-      frame = record {
-        shape = record { wide = ap (λ x. x .columns) e; tall = ap (λ x. x .rows) e; deep = ap (λ x. x .size) e };
-        answers = ap (λ x. x .answers) e;
-      };
-      block = ap (λ x. x .block) e;
-    }
+pub calm-refl : (m : Meaning) → Calm m m
+calm-refl m = record { frame = record { shape = record { wide = refl; tall = refl; deep = refl }; answers = refl }; block = refl }
 
 pub calm-read : (m m′ : Meaning) (c : ℕ) → m′ ≡ tallied m c → Calm m m′
 calm-read m m′ c e =
-    record {
-      frame = record {
-        shape = record { wide = ap (λ x. x .columns) e; tall = ap (λ x. x .rows) e; deep = ap (λ x. x .size) e };
-        answers = ap (λ x. x .answers) e;
-      };
-      block = ap (λ x. x .block) e;
-    }
+    subst (λ x. Calm m x) (sym e) (record { frame = record { shape = record { wide = refl; tall = refl; deep = refl }; answers = refl }; block = refl })
 
 pub calm-then : (m m′ m″ : Meaning) → Calm m m′ → Calm m′ m″ → Calm m m″
 calm-then m m′ m″ p q =

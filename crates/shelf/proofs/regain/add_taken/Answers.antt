@@ -1,17 +1,16 @@
-use mathlib.Core.Path.{_≡_, refl, sym, ap, ap₂, _∙_}
-use Prim.Native.Nat.{ℕ, _+_, _<_}
+use mathlib.Core.Path.{_≡_, refl, sym, ap, _∙_}
+use Prim.Native.Nat.{ℕ, _+_}
 use native.Mathlib.Omega.{arith}
 use lib.Bits.{bitXor}
 use lib.ListN.{length}
 use Rattle.code.specs.Numbers.{only, xorsum}
 use Rattle.code.specs.Neighbours.{published}
-use Rattle.code.specs.Lines.{takes}
 use Rattle.code.proofs.Limits.{law-of-width}
 use Rattle.code.proofs.Xor.{sum-next}
 use Rattle.law.specs.Holding.{held, Calm}
-use Rattle.shelf.specs.Regaining.{BytesAdded, wants, taken}
+use Rattle.shelf.specs.Regaining.{wants, taken}
 use Rattle.shelf.proofs.Regaining.{may-read}
-use Rattle.shelf.proofs.OneBlock.{calm-same, calm-then, may-read-calm, bytes-none, bytes-more, bytes-calm, wants-other, taken-wanted}
+use Rattle.shelf.proofs.OneBlock.{calm-refl, calm-then, may-read-calm, bytes-none, bytes-more, bytes-calm, wants-other, taken-wanted}
 use Rattle.shelf.proofs.regain.add_taken.Needs as need
 
 pub add-if-requires : need.add-if-requires
@@ -24,7 +23,7 @@ pub loop-column-holds : need.loop-column-holds
 unfolding xorsum
 loop-column-holds g c =
     let m = g .T·Tray .meaning (c .add-if .last .tray) in
-    (calm-same m m refl, bytes-none (length (c .add-if .last .block)) (c .add-if .last .block) (λ _. 0) (λ _. refl))
+    (calm-refl m, bytes-none (length (c .add-if .last .block)) (c .add-if .last .block) (λ _. 0) (λ _. refl))
 
 pub add-if-requires-in-loop-column : need.add-if-requires-in-loop-column
 add-if-requires-in-loop-column g c κs =

@@ -1,6 +1,6 @@
-use mathlib.Core.Path.{_≡_, refl, sym, ap, ap₂, _∙_}
+use mathlib.Core.Path.{_≡_, refl, ap, ap₂}
 use mathlib.Core.Bool.{not}
-use Prim.Native.Nat.{ℕ, _+_, _<_}
+use Prim.Native.Nat.{ℕ, _+_}
 use native.Mathlib.Omega.{arith}
 use lib.Bits.{bitXor}
 use lib.Dec.{eqb}
@@ -12,9 +12,9 @@ use Rattle.code.specs.Neighbours.{published}
 use Rattle.code.proofs.Limits.{a-width}
 use Rattle.law.specs.Holding.{held, Calm}
 use Rattle.law.specs.Hand.{others}
-use Rattle.shelf.specs.Regaining.{BytesAdded, taken}
+use Rattle.shelf.specs.Regaining.{taken}
 use Rattle.shelf.proofs.Regaining.{may-read, others-next}
-use Rattle.shelf.proofs.OneBlock.{calm-same, calm-read, calm-then, calm-held, alone-calm, bytes-none, bytes-more, bytes-all, bytes-calm}
+use Rattle.shelf.proofs.OneBlock.{calm-refl, calm-read, calm-then, calm-held, alone-calm, bytes-none, bytes-more, bytes-all, bytes-calm}
 use Rattle.shelf.proofs.regain.regain_by_line.Needs as need
 
 pub add-k : need.add-k
@@ -39,7 +39,7 @@ pub loop-through-holds : need.loop-through-holds
 unfolding others xorsum
 loop-through-holds g c =
     let m = g .T·Tray .meaning (c .fetch .last .tray) in
-    (calm-same m m refl, bytes-none (length (c .fetch .last .block)) (c .fetch .last .block) (λ _. 0) (λ _. refl))
+    (calm-refl m, bytes-none (length (c .fetch .last .block)) (c .fetch .last .block) (λ _. 0) (λ _. refl))
 
 pub loop-through-again : need.loop-through-again
 loop-through-again g c =

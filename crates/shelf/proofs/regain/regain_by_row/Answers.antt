@@ -1,6 +1,6 @@
-use mathlib.Core.Path.{_≡_, refl, sym, ap, ap₂, _∙_}
+use mathlib.Core.Path.{_≡_, refl, ap, ap₂}
 use mathlib.Core.Bool.{not}
-use Prim.Native.Nat.{ℕ, _+_, _<_}
+use Prim.Native.Nat.{_+_}
 use native.Mathlib.Omega.{arith}
 use lib.Bits.{bitXor}
 use lib.Dec.{eqb}
@@ -8,9 +8,8 @@ use lib.ListN.{length, getD}
 use Rattle.code.specs.Numbers.{only, xorsum}
 use Rattle.law.specs.Holding.{held, Calm}
 use Rattle.law.specs.Hand.{others, by-row}
-use Rattle.shelf.specs.Regaining.{BytesAdded}
 use Rattle.shelf.proofs.Regaining.{may-read, others-next}
-use Rattle.shelf.proofs.OneBlock.{calm-same, calm-read, calm-then, calm-held, may-read-calm, is-other, bytes-none, bytes-more, bytes-all, bytes-calm}
+use Rattle.shelf.proofs.OneBlock.{calm-refl, calm-read, calm-then, calm-held, may-read-calm, is-other, bytes-none, bytes-more, bytes-all, bytes-calm}
 use Rattle.shelf.proofs.regain.regain_by_row.Needs as need
 
 pub fetch-requires : need.fetch-requires
@@ -33,7 +32,7 @@ pub loop-column-holds : need.loop-column-holds
 unfolding others xorsum
 loop-column-holds g c =
     let m = g .T·Tray .meaning (c .fetch .last .tray) in
-    (calm-same m m refl, bytes-none (length (c .fetch .last .block)) (c .fetch .last .block) (λ _. 0) (λ _. refl))
+    (calm-refl m, bytes-none (length (c .fetch .last .block)) (c .fetch .last .block) (λ _. 0) (λ _. refl))
 
 pub loop-column-again : need.loop-column-again
 loop-column-again g c =
