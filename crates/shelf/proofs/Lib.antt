@@ -18,3 +18,6 @@ pub mod Settling
 pub mod Ranks
 pub mod Finding
 pub mod Recovered
+pub mod Regaining
+pub mod Halfway
+pub mod OneBlock
