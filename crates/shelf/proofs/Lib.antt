@@ -16,3 +16,5 @@ pub mod Spreading
 pub mod Regaining
 pub mod Halfway
 pub mod OneBlock
+pub mod Handing
+pub mod Reaching
