@@ -21,3 +21,5 @@ pub mod Recovered
 pub mod Regaining
 pub mod Halfway
 pub mod OneBlock
+pub mod Handing
+pub mod Reaching

@@ -3,13 +3,19 @@
 // roster lent, so no other call on the shelf passes the check before the drill has ended.
 ghost use mathlib.Core.Path.{_≡_};
 ghost use denote.Ref.{name};
+ghost use lib.ListN.{length};
 ghost use Rattle.tray.specs.Meaning.{ifOk};
 ghost use Rattle.shelf.specs.Rosters.{rosterOf, taken-out};
 ghost use Rattle.shelf.specs.Checks.{pulling};
 ghost use Rattle.shelf.specs.Promises.{PullsOn};
+ghost use Rattle.law.specs.Promises.{Spares, told-inside};
+ghost use Rattle.shelf.specs.Rosters.{rosterOf, without};
+ghost use Rattle.shelf.specs.Checks.{pulling, reaching};
+ghost use Rattle.shelf.specs.Promises.{PullsOn, GetsOn, CarriesInsideOn};
 ghost use Rattle.shelf.specs.Drills.{ended, DrillCarries};
 use crate::roster::Roster;
 use tray::fault::Fault;
+use tray::trays::Tray;
 
 // `taken` is the refusal of a drill that is idle: it took nothing out, and restores nothing.
 pub struct Drill<'a> {
@@ -32,7 +38,6 @@ impl Drop for Drill<'_> {
             taken: _,
         } = self;
     }
-}
 
 impl Roster {
     // Begins a drill of a column, data or parity. Where the column cannot be taken out the drill is idle.
@@ -44,21 +49,29 @@ impl Roster {
         ensures lender { λ r. ⌜ name (r .roster) ≡ name (self .entry) ⌝ }
         ensures done { λ r. ⌜ PullsOn (rosterOf (now (self .entry))) column (r .taken) (rosterOf (now (r .roster))) ⌝ }
         ensures carries { λ r. ⌜ DrillCarries (rosterOf (now (self .entry))) column (r .taken) (rosterOf (now (r .roster))) ⌝ }
-    {
         let taken = self.take_out(column);
         Drill {
             roster: self,
             column,
             taken,
-        }
-    }
-}
 
 impl Drill<'_> {
     // Whether the drill took its column out, or why it is idle.
     pub fn taken(&self) -> Result<(), Fault>
         ensures { λ r. ⌜ r ≡ now (self .entry) .taken ⌝ }
-    {
         self.taken
-    }
-}
+
+    // A get inside the drill: with the drilled column out, or in an idle drill on the roster as it stands.
+    pub fn get<T: Tray>(
+        &self,
+        tray: &mut T,
+        column: u32,
+        row: u32,
+        block: &mut [u8],
+        work: &mut [u8],
+    ) -> Result<(), Fault>
+        ensures value { λ r. ⌜ r ≡ reaching (rosterOf (now (now (self .entry) .roster))) (T·Tray .meaning (now (tray .entry))) column row (length (now (block .entry))) (length (now (work .entry))) ⌝ }
+        ensures done { λ r. ⌜ GetsOn (rosterOf (now (now (self .entry) .roster))) (T·Tray .meaning (now (tray .entry))) column row (now (block .entry)) r (now (block .exit)) (T·Tray .meaning (now (tray .exit))) ⌝ }
+        ensures work { λ r. ⌜ Spares (now (work .entry)) r (now (work .exit)) ⌝ }
+        ensures carries { λ r. ⌜ CarriesInsideOn (rosterOf (now (now (self .entry) .roster))) (T·Tray .meaning (now (tray .entry))) (T·Tray .sized (now (tray .entry))) (told-inside r column row) (T·Tray .meaning (now (tray .exit))) (T·Tray .sized (now (tray .exit))) ⌝ }
+        self.roster.get(tray, column, row, block, work)

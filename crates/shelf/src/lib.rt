@@ -3,6 +3,8 @@ mod blocks;
 mod checks;
 pub mod drill;
 mod gather;
+pub mod get;
+mod hand;
 pub mod layout;
 mod recover;
 mod regain;
