@@ -5,11 +5,8 @@ ghost use mathlib.Core.Path.{_≡_};
 ghost use denote.Ref.{name};
 ghost use lib.ListN.{length};
 ghost use Rattle.tray.specs.Meaning.{ifOk};
-ghost use Rattle.shelf.specs.Rosters.{rosterOf, taken-out};
-ghost use Rattle.shelf.specs.Checks.{pulling};
-ghost use Rattle.shelf.specs.Promises.{PullsOn};
 ghost use Rattle.law.specs.Promises.{Spares, told-inside};
-ghost use Rattle.shelf.specs.Rosters.{rosterOf, without};
+ghost use Rattle.shelf.specs.Rosters.{rosterOf, taken-out};
 ghost use Rattle.shelf.specs.Checks.{pulling, reaching};
 ghost use Rattle.shelf.specs.Promises.{PullsOn, GetsOn, CarriesInsideOn};
 ghost use Rattle.shelf.specs.Drills.{ended, DrillCarries};
@@ -38,6 +35,7 @@ impl Drop for Drill<'_> {
             taken: _,
         } = self;
     }
+}
 
 impl Roster {
     // Begins a drill of a column, data or parity. Where the column cannot be taken out the drill is idle.
@@ -49,17 +47,23 @@ impl Roster {
         ensures lender { λ r. ⌜ name (r .roster) ≡ name (self .entry) ⌝ }
         ensures done { λ r. ⌜ PullsOn (rosterOf (now (self .entry))) column (r .taken) (rosterOf (now (r .roster))) ⌝ }
         ensures carries { λ r. ⌜ DrillCarries (rosterOf (now (self .entry))) column (r .taken) (rosterOf (now (r .roster))) ⌝ }
+    {
         let taken = self.take_out(column);
         Drill {
             roster: self,
             column,
             taken,
+        }
+    }
+}
 
 impl Drill<'_> {
     // Whether the drill took its column out, or why it is idle.
     pub fn taken(&self) -> Result<(), Fault>
         ensures { λ r. ⌜ r ≡ now (self .entry) .taken ⌝ }
+    {
         self.taken
+    }
 
     // A get inside the drill: with the drilled column out, or in an idle drill on the roster as it stands.
     pub fn get<T: Tray>(
@@ -74,4 +78,7 @@ impl Drill<'_> {
         ensures done { λ r. ⌜ GetsOn (rosterOf (now (now (self .entry) .roster))) (T·Tray .meaning (now (tray .entry))) column row (now (block .entry)) r (now (block .exit)) (T·Tray .meaning (now (tray .exit))) ⌝ }
         ensures work { λ r. ⌜ Spares (now (work .entry)) r (now (work .exit)) ⌝ }
         ensures carries { λ r. ⌜ CarriesInsideOn (rosterOf (now (now (self .entry) .roster))) (T·Tray .meaning (now (tray .entry))) (T·Tray .sized (now (tray .entry))) (told-inside r column row) (T·Tray .meaning (now (tray .exit))) (T·Tray .sized (now (tray .exit))) ⌝ }
+    {
         self.roster.get(tray, column, row, block, work)
+    }
+}
