@@ -23,3 +23,4 @@ pub mod Halfway
 pub mod OneBlock
 pub mod Handing
 pub mod Reaching
+pub mod Rehearsing

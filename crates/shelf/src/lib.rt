@@ -8,6 +8,7 @@ mod hand;
 pub mod layout;
 mod recover;
 mod regain;
+pub mod rehearse;
 pub mod roster;
 mod slots;
 mod solve;
