@@ -18,3 +18,5 @@ pub mod Halfway
 pub mod OneBlock
 pub mod Handing
 pub mod Reaching
+pub mod Changing
+pub mod Exchanging
