@@ -5,6 +5,7 @@ pub mod Drilling
 pub mod Promised
 pub mod Checked
 pub mod Frames
+pub mod Readied
 pub mod Wiping
 pub mod Laying
 pub mod Indices
@@ -13,6 +14,10 @@ pub mod Holding
 pub mod Gathering
 pub mod Outs
 pub mod Spreading
+pub mod Settling
+pub mod Ranks
+pub mod Finding
+pub mod Recovered
 pub mod Regaining
 pub mod Halfway
 pub mod OneBlock
@@ -20,3 +25,4 @@ pub mod Handing
 pub mod Reaching
 pub mod Changing
 pub mod Exchanging
+pub mod Rehearsing

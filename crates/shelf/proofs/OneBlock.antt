@@ -1,48 +1,36 @@
 -- One block of a data column that alone is out, by its row or by its line.
-use mathlib.Core.Path.{_≡_, refl, sym, ap, ap₂, _∙_, subst₂}
+use mathlib.Core.Path.{_≡_, refl, sym, ap, ap₂, _∙_, subst, subst₂}
 use mathlib.Core.Logic.{_≢_}
 use mathlib.Core.Bool.{Bool, true, false, not, cond, _&&_, _||_, Bool·beq, true≢false}
 use mathlib.Core.List.{List}
 use Prim.Native.Nat.{ℕ, zero, suc, _+_, _*_, _<_}
 use native.Mathlib.Omega.{arith}
 use native.Mathlib.Nat.{zero-mul, zero-add}
-use native.Mathlib.Decide.{ℕ-discrete}
 use lib.Bits.{bitXor, xor-assoc, xor-self, xor-zero-r}
 use lib.Dec.{eqb}
 use lib.ListN.{length, getD}
-use borrow.Author.Tests.{eq-true, ne-false, eqb-true, eqb-false}
+use borrow.Author.Tests.{eq-true, ne-false, eqb-true}
 use Rattle.tray.specs.Meaning.{Meaning, tallied}
 use Rattle.code.specs.Numbers.{only, xorsum}
-use Rattle.code.specs.Code.{Blocks, Rule, rows, dark, meets, gives, beside}
+use Rattle.code.specs.Code.{Blocks, Rule, rows, dark, gives, beside}
 use Rattle.code.specs.Neighbours.{Tournament}
 use Rattle.code.specs.Lines.{takes}
-use Rattle.code.proofs.Xor.{only-xor, only-true, only-false, sum-same, sum-xor, sum-one, sum-next}
-use Rattle.law.specs.Holding.{held, Shaped, Calm}
-use Rattle.law.specs.Hand.{others, by-row, with-row}
+use Rattle.code.proofs.Xor.{only-xor, only-true, only-false, sum-same, sum-xor, sum-one}
+use Rattle.law.specs.Holding.{held, Calm}
+use Rattle.law.specs.Hand.{others, by-row, with-row, Bytes}
+use Rattle.shelf.specs.Blocks.{Ready}
 use Rattle.shelf.specs.Slots.{slot, SlotAdded}
 use Rattle.shelf.specs.Regaining.{Alone, BytesAdded, wants, taken}
+use Rattle.shelf.proofs.Regaining.{may-read}
 
 -- ---- trays that differ in tallies alone
 
-pub calm-same : (m m′ : Meaning) → m′ ≡ m → Calm m m′
-calm-same m m′ e =
-    record {
-      frame = record {
-        shape = record { wide = ap (λ x. x .columns) e; tall = ap (λ x. x .rows) e; deep = ap (λ x. x .size) e };
-        answers = ap (λ x. x .answers) e;
-      };
-      block = ap (λ x. x .block) e;
-    }
+pub calm-refl : (m : Meaning) → Calm m m
+calm-refl m = record { frame = record { shape = record { wide = refl; tall = refl; deep = refl }; answers = refl }; block = refl }
 
 pub calm-read : (m m′ : Meaning) (c : ℕ) → m′ ≡ tallied m c → Calm m m′
 calm-read m m′ c e =
-    record {
-      frame = record {
-        shape = record { wide = ap (λ x. x .columns) e; tall = ap (λ x. x .rows) e; deep = ap (λ x. x .size) e };
-        answers = ap (λ x. x .answers) e;
-      };
-      block = ap (λ x. x .block) e;
-    }
+    subst (λ x. Calm m x) (sym e) (record { frame = record { shape = record { wide = refl; tall = refl; deep = refl }; answers = refl }; block = refl })
 
 pub calm-then : (m m′ m″ : Meaning) → Calm m m′ → Calm m′ m″ → Calm m m″
 calm-then m m′ m″ p q =
@@ -77,6 +65,14 @@ alone-calm k size s m m′ j e p a =
 pub calm-held : (m m′ : Meaning) → Calm m m′ → held m′ ≡ held m
 calm-held m m′ p = let h : (ℕ → ℕ → List ℕ) → ℕ → Blocks = λ f b r c. getD (f c r) b 0 in ap h (p .block)
 
+-- a block of another column may be read of each of them
+pub may-read-calm : (k size : ℕ) (m m′ : Meaning) (j : ℕ) → Calm m m′ → Alone k size m j
+    → (c i n : ℕ) → c < k + 2 → c ≢ j → i < rows k → n ≡ size → Ready m′ c i n
+may-read-calm k size m m′ j p a = may-read k size m′ j (alone-calm k size size m m′ j refl p a)
+
+pub is-other : (c j : ℕ) → not (eqb c j) ≡ true → c ≢ j
+is-other c j h e = true≢false (sym h ∙ ap not (sym (eq-true c j e)))
+
 -- ---- blocks
 
 -- a block is a work space of one slot
@@ -95,6 +91,11 @@ module _ (size : ℕ) (was : List ℕ) where
       → BytesAdded size was f mid → BytesAdded size mid g after → BytesAdded size was h after
   bytes-more f g h mid after e p q b bl =
       q b bl ∙ ap (λ x. bitXor x (g b)) (p b bl) ∙ xor-assoc (getD was b 0) (f b) (g b) ∙ ap (bitXor (getD was b 0)) (e b)
+
+-- a block with bytes added to it, by what the sums are
+pub bytes-all : (s size : ℕ) (was after : List ℕ) (f h : ℕ → ℕ) → s ≡ size → length after ≡ size → ((b : ℕ) → bitXor (getD was b 0) (f b) ≡ h b)
+    → BytesAdded s was f after → Bytes size after h
+bytes-all s size was after f h e l sums p = record { long = l; each = λ b bl. p b (omega arith) ∙ sums b }
 
 -- added as another tray with the same blocks holds it
 pub bytes-calm : (F : (ℕ → Blocks) → ℕ → ℕ) (m m′ : Meaning) (s size : ℕ) (was after : List ℕ) → Calm m m′ → s ≡ size

@@ -12,18 +12,18 @@ use borrow.Author.Tests.{eq-true, ne-false, lt-true, le-false, eqb-true, eqb-fal
 use Rattle.std.proofs.shelf.Ways.{tells}
 use Rattle.tray.specs.Meaning.{Meaning, Wraps, tallied}
 use Rattle.code.specs.Numbers.{only, xorsum}
-use Rattle.code.specs.Code.{Blocks, Rule, spot, rows, dark, meets, butterfly, gives, beside}
+use Rattle.code.specs.Code.{Blocks, Rule, spot, rows, meets, butterfly, gives}
 use Rattle.code.specs.Neighbours.{Tournament}
 use Rattle.code.specs.Lines.{holds}
 use Rattle.code.proofs.Xor.{only-xor, only-zero, only-false, sum-next, sum-none}
 use Rattle.code.proofs.Linear.{difference, butterfly-same, butterfly-xor}
 use Rattle.code.proofs.Lost.{beside-none, gives-none}
 use Rattle.code.proofs.Put.{line-spot}
-use Rattle.law.specs.Holding.{held, Shaped}
+use Rattle.law.specs.Holding.{held}
 use Rattle.law.specs.Hand.{others, by-row, with-row}
 use Rattle.shelf.specs.Blocks.{Ready}
 use Rattle.shelf.specs.Slots.{slot, rowSlot, lineSlot, SlotSet, IsSlot, Room, Plus, nothing, holdsBut, toLines}
-use Rattle.shelf.specs.Reading.{afterReads, times, Heard}
+use Rattle.shelf.specs.Reading.{afterReads, times}
 use Rattle.shelf.specs.Regaining.{Alone, onceBelow, ofRows, rowOf, below, linesBut, unless, RowFound}
 use Rattle.shelf.proofs.Adding.{room-kept, plus-none, plus-same, plus-plus}
 use Rattle.shelf.proofs.Gathering.{reads-none, reads-same, reads-reads, column-none, column-more}

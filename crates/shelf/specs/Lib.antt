@@ -13,3 +13,4 @@ pub mod Recovering
 pub mod Regaining
 pub mod Hands
 pub mod Parities
+pub mod Rehearsals

@@ -10,6 +10,7 @@ mod parities;
 pub mod put;
 mod recover;
 mod regain;
+pub mod rehearse;
 pub mod roster;
 mod slots;
 mod solve;

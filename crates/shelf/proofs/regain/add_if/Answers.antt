@@ -1,11 +1,11 @@
-use mathlib.Core.Path.{_≡_, refl, sym, ap, _∙_, subst}
+use mathlib.Core.Path.{_≡_, sym, ap, _∙_, subst}
 use native.Mathlib.Omega.{arith}
 use lib.Bits.{bitXor}
 use lib.ListN.{length, getD}
 use Rattle.code.proofs.Xor.{only-true, only-false}
 use Rattle.law.specs.Holding.{held}
 use Rattle.shelf.specs.Slots.{SlotAdded}
-use Rattle.shelf.proofs.OneBlock.{calm-same, calm-read, one-slot, bytes-none}
+use Rattle.shelf.proofs.OneBlock.{calm-refl, calm-read, one-slot, bytes-none}
 use Rattle.shelf.proofs.regain.add_if.Needs as need
 
 pub add-requires : need.add-requires
@@ -30,6 +30,6 @@ pub returns-else-wanted : need.returns-else-wanted
 returns-else-wanted g c =
     let m = g .T·Tray .meaning (c .args .tray .now) in
     record {
-      tray = calm-same m m refl;
+      tray = calm-refl m;
       block = bytes-none (length (c .args .block .now)) (c .args .block .now) _ (λ b. only-false (c .args .wanted) (held m b (c .args .row .0) (c .args .column)) (c .if-wanted .left));
     }

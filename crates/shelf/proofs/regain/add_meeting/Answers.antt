@@ -1,7 +1,7 @@
-use mathlib.Core.Path.{_≡_, refl, sym, ap, _∙_, subst}
+use mathlib.Core.Path.{_≡_, sym, ap, _∙_}
 use mathlib.Core.Logic.{_≢_}
 use mathlib.Core.Bool.{not}
-use Prim.Native.Nat.{ℕ, _<_}
+use Prim.Native.Nat.{_<_}
 use native.Mathlib.Omega.{arith}
 use lib.Bits.{bitXor}
 use lib.Dec.{eqb}
@@ -14,7 +14,7 @@ use Rattle.code.proofs.Rows.{meets-lt}
 use Rattle.code.proofs.Xor.{only-true, only-false}
 use Rattle.law.specs.Holding.{held}
 use Rattle.shelf.specs.Regaining.{taken}
-use Rattle.shelf.proofs.OneBlock.{calm-same, bytes-none}
+use Rattle.shelf.proofs.OneBlock.{calm-refl, bytes-none}
 use Rattle.shelf.proofs.regain.add_meeting.Needs as need
 
 pub add-taken-requires : need.add-taken-requires
@@ -53,7 +53,7 @@ returns-else-through-lost g c =
     let t = c .args .through in
     let e : t ≡ j = omega arith in
     record {
-      tray = calm-same m m refl;
+      tray = calm-refl m;
       block = bytes-none (length (c .args .block .now)) (c .args .block .now) _
           (λ b. only-false (not (eqb t j)) (taken k (published k) (held m b) j (meets (c .args .line .0) t) t) (ap not (sym (eq-true t j e))));
     }

@@ -1,24 +1,29 @@
-use mathlib.Core.Path.{_≡_, refl, sym, ap, ap₂, _∙_}
-use Prim.Native.Nat.{ℕ, _+_, _<_}
+use mathlib.Core.Path.{_≡_, refl, sym, ap, _∙_}
+use Prim.Native.Nat.{ℕ, _+_}
 use native.Mathlib.Omega.{arith}
 use lib.Bits.{bitXor}
 use lib.ListN.{length}
 use Rattle.code.specs.Numbers.{only, xorsum}
 use Rattle.code.specs.Neighbours.{published}
-use Rattle.code.specs.Lines.{takes}
 use Rattle.code.proofs.Limits.{law-of-width}
 use Rattle.code.proofs.Xor.{sum-next}
 use Rattle.law.specs.Holding.{held, Calm}
-use Rattle.shelf.specs.Regaining.{BytesAdded, wants, taken}
+use Rattle.shelf.specs.Regaining.{wants, taken}
 use Rattle.shelf.proofs.Regaining.{may-read}
-use Rattle.shelf.proofs.OneBlock.{calm-same, calm-then, alone-calm, bytes-none, bytes-more, bytes-calm, wants-other, taken-wanted}
+use Rattle.shelf.proofs.OneBlock.{calm-refl, calm-then, may-read-calm, bytes-none, bytes-more, bytes-calm, wants-other, taken-wanted}
 use Rattle.shelf.proofs.regain.add_taken.Needs as need
+
+pub add-if-requires : need.add-if-requires
+add-if-requires g c κs =
+    let k = c .args .k in
+    let jk = c .pre .0 .column in
+    (λ _. may-read k _ _ (c .args .lost) (c .pre .0) k (c .args .row .0) _ (omega arith) (omega arith) (c .pre .1 .1 .0) (c .pre .1 .0), c .pre .1 .0)
 
 pub loop-column-holds : need.loop-column-holds
 unfolding xorsum
 loop-column-holds g c =
     let m = g .T·Tray .meaning (c .add-if .last .tray) in
-    (calm-same m m refl, bytes-none (length (c .add-if .last .block)) (c .add-if .last .block) (λ _. 0) (λ _. refl))
+    (calm-refl m, bytes-none (length (c .add-if .last .block)) (c .add-if .last .block) (λ _. 0) (λ _. refl))
 
 pub add-if-requires-in-loop-column : need.add-if-requires-in-loop-column
 add-if-requires-in-loop-column g c κs =
@@ -29,12 +34,7 @@ add-if-requires-in-loop-column g c κs =
     let j = c .args .lost in
     let t = c .loop-column .column in
     let calm : Calm m m′ = calm-then m _ m′ (c .add-if .ensures .tray) (c .loop-column .inv .0) in
-    let s = length (c .loop-column .scratch) in (
-      λ w.
-          may-read k s m′ j (alone-calm k _ s m m′ j (omega arith) calm (c .pre .0)) t i s (omega arith)
-          (wants-other (published k) i (c .args .through) j t (sym (c .is-wanted .ensures) ∙ w)) (c .pre .1 .1 .0) refl,
-      omega arith,
-    )
+    (λ w. may-read-calm k _ m m′ j calm (c .pre .0) t i _ (omega arith) (wants-other (published k) i (c .args .through) j t (sym (c .is-wanted .ensures) ∙ w)) (c .pre .1 .1 .0) (omega arith), omega arith)
 
 pub loop-column-again : need.loop-column-again
 loop-column-again g c =

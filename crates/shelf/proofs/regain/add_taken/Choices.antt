@@ -1,5 +1,4 @@
 -- The columns below `column` are read, where they are wanted.
-use Prim.Native.Nat.{ℕ}
 use lib.ListN.{length}
 use Rattle.code.specs.Numbers.{only, xorsum}
 use Rattle.code.specs.Neighbours.{published}

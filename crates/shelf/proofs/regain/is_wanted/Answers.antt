@@ -1,7 +1,6 @@
 use mathlib.Core.Path.{_≡_, sym, ap, ap₂, _∙_}
 use mathlib.Core.Bool.{not, _&&_, Bool·beq}
 use native.Mathlib.Omega.{arith}
-use lib.Dec.{eqb}
 use borrow.Author.Tests.{eq-true, ne-false}
 use Rattle.code.specs.Neighbours.{published}
 use Rattle.code.specs.Lines.{takes}

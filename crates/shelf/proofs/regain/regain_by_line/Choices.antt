@@ -1,5 +1,4 @@
 -- The columns below `through` are done.
-use Prim.Native.Nat.{ℕ}
 use lib.ListN.{length}
 use Rattle.code.specs.Code.{meets}
 use Rattle.code.specs.Neighbours.{published}

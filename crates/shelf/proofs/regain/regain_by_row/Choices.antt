@@ -1,5 +1,4 @@
 -- The columns below `column` are read.
-use Prim.Native.Nat.{ℕ}
 use lib.ListN.{length}
 use Rattle.law.specs.Holding.{held, Calm}
 use Rattle.law.specs.Hand.{others}
