@@ -23,4 +23,6 @@ pub mod Halfway
 pub mod OneBlock
 pub mod Handing
 pub mod Reaching
+pub mod Changing
+pub mod Exchanging
 pub mod Rehearsing

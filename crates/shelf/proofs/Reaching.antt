@@ -5,6 +5,7 @@ use mathlib.Core.List.{List}
 use Prim.Native.Nat.{ℕ, _*_, _≤_}
 use native.Mathlib.Omega.{arith}
 use lib.ListN.{length}
+use Rattle.std.proofs.shelf.Ways.{tells}
 use Rattle.std.specs.declared.result.Result.{Result}
 use Rattle.std.specs.declared.result.Result.the-variants.{Ok, Err}
 use Rattle.tray.specs.declared.fault.Fault.{Fault}
@@ -13,21 +14,17 @@ use Rattle.code.specs.Code.{rows}
 use Rattle.code.specs.Neighbours.{published}
 use Rattle.law.specs.Holding.{Calm}
 use Rattle.law.specs.Hand.{AtHand}
-use Rattle.law.specs.Calls.{Got}
+use Rattle.law.specs.Calls.{Got, Put}
 use Rattle.law.specs.Promises.{Spares}
 use Rattle.shelf.specs.Missing.{keeps}
 use Rattle.shelf.specs.Rosters.{Rostered, outOf}
 use Rattle.shelf.specs.Checks.{reaching}
-use Rattle.shelf.specs.Promises.{GetsOn}
+use Rattle.shelf.specs.Promises.{GetsOn, PutsOn}
 use Rattle.shelf.specs.Hands.{Reach}
 use Rattle.shelf.proofs.Limits.{is-width, are-columns}
 use Rattle.shelf.proofs.Checked.{reached}
 
 module _ (r : Rostered) (m : Meaning) (c i n : ℕ) (work : List ℕ) (ok : reaching r m c i n (length work) ≡ Ok tt) where
-  -- a block has the shelf's size
-  pub long-as : n ≡ r .size
-  long-as = reached r m c i n (length work) ok .long
-
   pub in-reach : keeps (r .width) (r .size) (r .missing) ≡ true → Reach (r .width) n (r .missing) m c i work
   in-reach kept =
       let h = reached r m c i n (length work) ok in
@@ -41,6 +38,12 @@ module _ (r : Rostered) (m : Meaning) (c i n : ℕ) (work : List ℕ) (ok : reac
         column = h .column;
         row = h .row;
       }
+
+  pub fits-most : keeps (r .width) (r .size) (r .missing) ≡ true → n ≤ 512
+  fits-most kept = let e = reached r m c i n (length work) ok .long in grind (arith, tells)
+
+  pub put-at : (m′ : Meaning) (x : List ℕ) → Put (r .width) (published (r .width)) n (outOf r) m c i x m′ → Put (r .width) (published (r .width)) (r .size) (outOf r) m c i x m′
+  put-at m′ x p = subst (λ s. Put (r .width) (published (r .width)) s (outOf r) m c i x m′) (reached r m c i n (length work) ok .long) p
 
   pub got : (v : List ℕ) (m′ : Meaning) → AtHand (r .width) (published (r .width)) n (outOf r) m i c v → Calm m m′
       → (outOf r c ≡ false → m′ .tally ≡ tallied m c .tally) → Got (r .width) (published (r .width)) (r .size) (outOf r) m c i v m′
@@ -63,6 +66,10 @@ module _ (r : Rostered) (m : Meaning) (c i : ℕ) (f : Fault) where
   pub get-refused : (was : List ℕ) (answer : Result (Unit {0}) Fault) → answer ≡ Err f → GetsOn r m c i was answer was m
   get-refused was (Ok u) e = never u f e
   get-refused was (Err _) e = (refl, refl)
+
+  pub put-refused : (x : List ℕ) (answer : Result (Unit {0}) Fault) → answer ≡ Err f → PutsOn r m c i x answer m
+  put-refused x (Ok u) e = never u f e
+  put-refused x (Err _) e = refl
 
 pub spared : (f : Fault) (was : List ℕ) (answer : Result (Unit {0}) Fault) → answer ≡ Err f → Spares was answer was
 spared f was (Ok u) e = never u f e

@@ -12,4 +12,5 @@ pub mod Solving
 pub mod Recovering
 pub mod Regaining
 pub mod Hands
+pub mod Parities
 pub mod Rehearsals

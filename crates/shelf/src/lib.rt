@@ -6,6 +6,8 @@ mod gather;
 pub mod get;
 mod hand;
 pub mod layout;
+mod parities;
+pub mod put;
 mod recover;
 mod regain;
 pub mod rehearse;
