@@ -13,3 +13,5 @@ pub mod Holding
 pub mod Gathering
 pub mod Outs
 pub mod Spreading
+pub mod Regaining
+pub mod Halfway

@@ -10,3 +10,4 @@ pub mod Slots
 pub mod Reading
 pub mod Solving
 pub mod Recovering
+pub mod Regaining

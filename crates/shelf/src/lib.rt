@@ -5,6 +5,7 @@ pub mod drill;
 mod gather;
 pub mod layout;
 mod recover;
+mod regain;
 pub mod roster;
 mod slots;
 mod solve;
