@@ -15,3 +15,4 @@ pub mod Outs
 pub mod Spreading
 pub mod Regaining
 pub mod Halfway
+pub mod Sweeping

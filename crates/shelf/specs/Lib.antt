@@ -11,3 +11,4 @@ pub mod Reading
 pub mod Solving
 pub mod Recovering
 pub mod Regaining
+pub mod Sweeping

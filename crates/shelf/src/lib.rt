@@ -7,6 +7,8 @@ pub mod layout;
 mod recover;
 mod regain;
 pub mod roster;
+mod scratch;
 mod slots;
 mod solve;
 mod sums;
+pub mod sweep;
