@@ -113,7 +113,7 @@ module _ (k p q : ℕ) where
       (λ i l f. light-same (meets (meets v p) j) v i (λ n′ _. cross-rest v p j i n′ f))
 
   -- the rank by fewer white places, and by the place at q
-  rank-whites : (u v : ℕ) → whites k p q u < whites k p q v → rank k p q u < rank k p q v
+  pub rank-whites : (u v : ℕ) → whites k p q u < whites k p q v → rank k p q u < rank k p q v
   unfolding rank
   rank-whites u v l = omega (arith, at-most (dark u q))
     where

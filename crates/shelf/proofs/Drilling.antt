@@ -16,7 +16,7 @@ use Rattle.law.proofs.Promises.{start-carries, end-carries}
 use Rattle.shelf.specs.declared.roster.missing.Missing.{Missing}
 use Rattle.shelf.specs.declared.roster.missing.Missing.the-variants.{Nothing, One, Two}
 use Rattle.shelf.specs.Missing.{isFull, added, removed}
-use Rattle.shelf.specs.Rosters.{Rostered, without, back-in, outOf, shelfOn}
+use Rattle.shelf.specs.Rosters.{Rostered, taken-out, back-in, outOf, shelfOn}
 use Rattle.shelf.specs.Checks.{pulling}
 use Rattle.shelf.specs.Promises.{PullsOn}
 use Rattle.shelf.specs.Drills.{ended, DrillCarries}
@@ -28,7 +28,7 @@ removed-added (One a) c f = ap (λ t. cond t (One a) (cond (eqb a c) (One c) (Tw
 removed-added (Two a b) c f = absurd (true≢false f)
 
 module _ (r r′ : Rostered) (c : ℕ) where
-  pub drill-undone : (answer : Result (Unit {0}) Fault) → answer ≡ pulling r c → r′ ≡ ifOk answer (without r c) r → ended answer c r′ ≡ r
+  pub drill-undone : (answer : Result (Unit {0}) Fault) → answer ≡ pulling r c → r′ ≡ ifOk answer (taken-out r c) r → ended answer c r′ ≡ r
   drill-undone (Ok u) e f =
       ap (λ t. back-in t c) f ∙ ap (λ m. record { width = r .width; size = r .size; missing = m }) (removed-added (r .missing) c (grind (arith, tells)))
   drill-undone (Err u) e f = f

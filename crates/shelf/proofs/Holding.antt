@@ -99,7 +99,7 @@ module _ (right : Rule) (i j skip : ℕ) (x : List ℕ) (b n : ℕ) where
 
 -- ---- no column is skipped: column k is none, and no line meets it in a row
 
-past : (k i n : ℕ) → 1 ≤ k → i < rows k → n < rows k → n ≢ meets i k
+pub past : (k i n : ℕ) → 1 ≤ k → i < rows k → n < rows k → n ≢ meets i k
 unfolding rows meets
 past k i n kl il nl e =
     let s : bitXor i n ≡ 2 ^ k - 1 = ap (bitXor i) e ∙ sym (xor-assoc i i (2 ^ k - 1)) ∙ ap (λ (x : ℕ). bitXor x (2 ^ k - 1)) (xor-self i) in

@@ -5,6 +5,7 @@ pub mod Drilling
 pub mod Promised
 pub mod Checked
 pub mod Frames
+pub mod Readied
 pub mod Wiping
 pub mod Laying
 pub mod Indices
@@ -16,3 +17,6 @@ pub mod Spreading
 pub mod Regaining
 pub mod Halfway
 pub mod Sweeping
+pub mod Settling
+pub mod Ranks
+pub mod Finding

@@ -12,12 +12,12 @@ use Rattle.code.specs.Neighbours.{published}
 use Rattle.law.specs.Calls.{Pulled}
 use Rattle.law.proofs.Promises.{pull-carries}
 use Rattle.shelf.specs.Missing.{isFull, added}
-use Rattle.shelf.specs.Rosters.{Rostered, without, outOf, shelfOn}
+use Rattle.shelf.specs.Rosters.{Rostered, taken-out, outOf, shelfOn}
 use Rattle.shelf.specs.Checks.{pulling}
 use Rattle.shelf.specs.Promises.{PullsOn, PullCarries}
 use Rattle.shelf.proofs.Missing.{at-most-one, added-out}
 
-pulled : (r : Rostered) (c : ℕ) → pulling r c ≡ Ok tt → Pulled (r .width) (outOf r) c (outOf (without r c))
+pulled : (r : Rostered) (c : ℕ) → pulling r c ≡ Ok tt → Pulled (r .width) (outOf r) c (outOf (taken-out r c))
 pulled r c e =
     let room : isFull (r .missing) ≡ false = grind (arith, tells) in
     record {
@@ -28,7 +28,7 @@ pulled r c e =
     }
 
 module _ (r r′ : Rostered) (c : ℕ) where
-  pub pull-kept : (answer : Result (Unit {0}) Fault) → answer ≡ pulling r c → r′ ≡ ifOk answer (without r c) r → PullsOn r c answer r′
+  pub pull-kept : (answer : Result (Unit {0}) Fault) → answer ≡ pulling r c → r′ ≡ ifOk answer (taken-out r c) r → PullsOn r c answer r′
   pull-kept (Ok u) e f =
       let p = pulled r c (sym e) in
       record { column = p .column; was-in = p .was-in; room = p .room; after = λ x. ap (λ t. outOf t x) f ∙ p .after x }

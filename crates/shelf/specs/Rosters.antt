@@ -22,8 +22,8 @@ abbrev pub fullRoster : ℕ → ℕ → Rostered
 fullRoster width size = record { width = width; size = size; missing = Nothing }
 
 -- the roster with column c taken out, and with it back in service
-abbrev pub without : Rostered → ℕ → Rostered
-without r c = record { width = r .width; size = r .size; missing = added (r .missing) c }
+abbrev pub taken-out : Rostered → ℕ → Rostered
+taken-out r c = record { width = r .width; size = r .size; missing = added (r .missing) c }
 
 abbrev pub back-in : Rostered → ℕ → Rostered
 back-in r c = record { width = r .width; size = r .size; missing = removed (r .missing) c }

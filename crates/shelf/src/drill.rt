@@ -4,7 +4,7 @@
 ghost use mathlib.Core.Path.{_≡_};
 ghost use denote.Ref.{name};
 ghost use Rattle.tray.specs.Meaning.{ifOk};
-ghost use Rattle.shelf.specs.Rosters.{rosterOf, without};
+ghost use Rattle.shelf.specs.Rosters.{rosterOf, taken-out};
 ghost use Rattle.shelf.specs.Checks.{pulling};
 ghost use Rattle.shelf.specs.Promises.{PullsOn};
 ghost use Rattle.shelf.specs.Drills.{ended, DrillCarries};
@@ -39,7 +39,7 @@ impl Roster {
     pub fn drill(&mut self, column: u32) -> Drill<'_>
         ensures taken { λ r. ⌜ r .taken ≡ pulling (rosterOf (now (self .entry))) column ⌝ }
         ensures column { λ r. ⌜ r .column ≡ column ⌝ }
-        ensures roster { λ r. ⌜ rosterOf (now (r .roster)) ≡ ifOk (r .taken) (without (rosterOf (now (self .entry))) column) (rosterOf (now (self .entry))) ⌝ }
+        ensures roster { λ r. ⌜ rosterOf (now (r .roster)) ≡ ifOk (r .taken) (taken-out (rosterOf (now (self .entry))) column) (rosterOf (now (self .entry))) ⌝ }
         ensures undone { λ r. ⌜ ended (r .taken) (r .column) (rosterOf (now (r .roster))) ≡ rosterOf (now (self .entry)) ⌝ }
         ensures lender { λ r. ⌜ name (r .roster) ≡ name (self .entry) ⌝ }
         ensures done { λ r. ⌜ PullsOn (rosterOf (now (self .entry))) column (r .taken) (rosterOf (now (r .roster))) ⌝ }

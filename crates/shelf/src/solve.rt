@@ -1,11 +1,12 @@
 // Solves two lost columns in the work space, once the sums of what is in service stand there.
 ghost use mathlib.Core.Path.{_≡_};
-ghost use mathlib.Core.Bool.{false, true};
+ghost use mathlib.Core.Bool.{cond, false, true};
 ghost use Prim.Native.Nat.{ℕ, _+_, _*_, _<_, _≤_};
 ghost use lib.ListN.{length};
-ghost use Rattle.code.specs.Code.{Blocks, rows};
+ghost use Rattle.code.specs.Code.{Blocks, dark, rows};
 ghost use Rattle.code.specs.Laws.{rank};
 ghost use Rattle.code.specs.Neighbours.{published};
+ghost use Rattle.code.specs.Widths.{isWidth};
 ghost use Rattle.shelf.specs.Slots.{Room};
 ghost use Rattle.shelf.specs.Solving.{Spread, Settled, Solving, before, Pair};
 use crate::slots::add;
@@ -37,16 +38,20 @@ fn settle(work: &mut [u8], k: u32, p: u32, q: u32, row: Row, block: &mut [u8])
     add_to_lines(work, k, row, q, k, block);
 }
 
+// 1 where the place in a row of a column is white, else 0.
+fn white(row: Row, column: u32) -> u32
+    ensures { λ r. ⌜ r ≡ cond (dark (row .0) column) 0 1 ⌝ }
+{
+    if row.is_dark(column) { 0 } else { 1 }
+}
+
 // The rank of a row: rows of lower rank are settled before it.
 fn rank_of(k: u32, p: u32, q: u32, row: Row) -> u32
-    requires { ⌜ row .0 < rows k ⌝ ∗ ⌜ Pair k (published k) p q ⌝ }
+    requires { ⌜ isWidth k ≡ true ⌝ ∗ ⌜ row .0 < rows k ⌝ ∗ ⌜ Pair k (published k) p q ⌝ }
     ensures { λ r. ⌜ r ≡ rank k p q (row .0) ⌝ }
 {
-    let mut whites = row.whites();
-    if !row.is_dark(p) {
-        whites -= 1;
-    }
-    if row.is_dark(q) { 2 * whites + 1 } else { 2 * (whites - 1) }
+    let others = row.whites() - white(row, p) - white(row, q);
+    2 * others + (1 - white(row, q))
 }
 
 // Settles a row if it has this rank.

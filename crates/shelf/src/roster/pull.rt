@@ -1,7 +1,7 @@
 // Columns that go out of service, and come back.
 ghost use mathlib.Core.Path.{_≡_};
 ghost use Rattle.tray.specs.Meaning.{ifOk};
-ghost use Rattle.shelf.specs.Rosters.{rosterOf, without, back-in};
+ghost use Rattle.shelf.specs.Rosters.{rosterOf, taken-out, back-in};
 ghost use Rattle.shelf.specs.Checks.{pulling};
 ghost use Rattle.shelf.specs.Promises.{PullsOn, PullCarries};
 use crate::roster::Roster;
@@ -28,7 +28,7 @@ impl Roster {
     // Takes a column out of service.
     pub(crate) fn take_out(&mut self, column: u32) -> Result<(), Fault>
         ensures value { λ r. ⌜ r ≡ pulling (rosterOf (now (self .entry))) column ⌝ }
-        ensures after { λ r. ⌜ rosterOf (now (self .exit)) ≡ ifOk r (without (rosterOf (now (self .entry))) column) (rosterOf (now (self .entry))) ⌝ }
+        ensures after { λ r. ⌜ rosterOf (now (self .exit)) ≡ ifOk r (taken-out (rosterOf (now (self .entry))) column) (rosterOf (now (self .entry))) ⌝ }
     {
         self.check_pull(column)?;
         self.missing = self.missing.with(column);
@@ -38,7 +38,7 @@ impl Roster {
     // Takes a column out of service, data or parity, as long as fewer than two are out. Its blocks may be lost from now on.
     pub fn pull(&mut self, column: u32) -> Result<(), Fault>
         ensures value { λ r. ⌜ r ≡ pulling (rosterOf (now (self .entry))) column ⌝ }
-        ensures after { λ r. ⌜ rosterOf (now (self .exit)) ≡ ifOk r (without (rosterOf (now (self .entry))) column) (rosterOf (now (self .entry))) ⌝ }
+        ensures after { λ r. ⌜ rosterOf (now (self .exit)) ≡ ifOk r (taken-out (rosterOf (now (self .entry))) column) (rosterOf (now (self .entry))) ⌝ }
         ensures done { λ r. ⌜ PullsOn (rosterOf (now (self .entry))) column r (rosterOf (now (self .exit))) ⌝ }
         ensures carries { λ r. ⌜ PullCarries (rosterOf (now (self .entry))) column r (rosterOf (now (self .exit))) ⌝ }
     {
