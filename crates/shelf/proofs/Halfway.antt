@@ -1,5 +1,5 @@
 -- A data column that alone is out, row after row: the dark rows by the rows' sums, and the white ones by the lines.
-use mathlib.Core.Path.{_≡_, refl, sym, ap, ap₂, _∙_, subst}
+use mathlib.Core.Path.{_≡_, refl, sym, ap, ap₂, _∙_}
 use mathlib.Core.Logic.{_≢_}
 use mathlib.Core.Bool.{Bool, true, false, not, cond, _&&_, true≢false}
 use mathlib.Core.List.{List}
@@ -11,9 +11,9 @@ use lib.Dec.{eqb, ltb}
 use borrow.Author.Tests.{eq-true, ne-false, lt-true, le-false, eqb-true, eqb-false}
 use Rattle.std.proofs.shelf.Ways.{tells}
 use Rattle.tray.specs.Meaning.{Meaning, Wraps}
-use Rattle.code.specs.Numbers.{only, xorsum, count}
+use Rattle.code.specs.Numbers.{only, count}
 use Rattle.code.specs.Code.{Blocks, Rule, rows, dark, meets, butterfly, gives, beside}
-use Rattle.code.proofs.Xor.{only-true, only-false, only-zero, sum-same, sum-none}
+use Rattle.code.proofs.Xor.{only-true, only-false, sum-same, sum-none}
 use Rattle.code.proofs.Rows.{back, meets-lt, cross-own}
 use Rattle.code.proofs.Linear.{difference, butterfly-same, butterfly-xor}
 use Rattle.code.proofs.Lost.{beside-none, gives-none}

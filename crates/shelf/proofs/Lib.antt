@@ -20,3 +20,4 @@ pub mod Sweeping
 pub mod Settling
 pub mod Ranks
 pub mod Finding
+pub mod OneBlock

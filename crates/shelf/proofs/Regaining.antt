@@ -12,18 +12,18 @@ use borrow.Author.Tests.{eq-true, ne-false, lt-true, le-false, eqb-true, eqb-fal
 use Rattle.std.proofs.shelf.Ways.{tells}
 use Rattle.tray.specs.Meaning.{Meaning, Wraps, tallied}
 use Rattle.code.specs.Numbers.{only, xorsum}
-use Rattle.code.specs.Code.{Blocks, Rule, spot, rows, dark, meets, butterfly, gives, beside}
+use Rattle.code.specs.Code.{Blocks, Rule, spot, rows, meets, butterfly, gives}
 use Rattle.code.specs.Neighbours.{Tournament}
 use Rattle.code.specs.Lines.{holds}
 use Rattle.code.proofs.Xor.{only-xor, only-zero, only-false, sum-next, sum-none}
 use Rattle.code.proofs.Linear.{difference, butterfly-same, butterfly-xor}
 use Rattle.code.proofs.Lost.{beside-none, gives-none}
 use Rattle.code.proofs.Put.{line-spot}
-use Rattle.law.specs.Holding.{held, Shaped}
+use Rattle.law.specs.Holding.{held}
 use Rattle.law.specs.Hand.{others, by-row, with-row}
 use Rattle.shelf.specs.Blocks.{Ready}
 use Rattle.shelf.specs.Slots.{slot, rowSlot, lineSlot, SlotSet, IsSlot, Room, Plus, nothing, holdsBut, toLines}
-use Rattle.shelf.specs.Reading.{afterReads, times, Heard}
+use Rattle.shelf.specs.Reading.{afterReads, times}
 use Rattle.shelf.specs.Regaining.{Alone, onceBelow, ofRows, rowOf, below, linesBut, unless, RowFound}
 use Rattle.shelf.proofs.Adding.{room-kept, plus-none, plus-same, plus-plus}
 use Rattle.shelf.proofs.Gathering.{reads-none, reads-same, reads-reads, column-none, column-more}
@@ -109,6 +109,10 @@ module _ (k : ℕ) (right : Rule) (i j : ℕ) where
 
 -- ---- the columns one by one
 
+pub others-next : (j t : ℕ) (f : ℕ → ℕ) → bitXor (others t j f) (only (not (eqb t j)) (f t)) ≡ others (t + 1) j f
+unfolding others
+others-next j t f = sym (sum-next t (λ c. only (not (eqb c j)) (f c)))
+
 module _ (i j : ℕ) (M : Blocks) where
   pub row-none : (i′ c : ℕ) → rowOf i (below j 0 M) i′ c ≡ 0
   unfolding rowOf below only
@@ -131,10 +135,6 @@ module _ (i j : ℕ) (M : Blocks) where
       go true e false f =
           xor-zero-r (cond (ltb c t && not (eqb c j)) (M i′ c) 0) ∙ ap (λ b. cond (b && not (eqb c j)) (M i′ c) 0) (same-below (eqb-false c t f))
 
-  pub others-next : (t : ℕ) → bitXor (others t j (M i)) (only (not (eqb t j)) (M i t)) ≡ others (t + 1) j (M i)
-  unfolding others
-  others-next t = sym (sum-next t (λ c. only (not (eqb c j)) (M i c)))
-
   -- all columns: the others, and what they and the row's sum say of column j
   pub row-all : (k : ℕ) → (i′ c : ℕ) → c < k → bitXor (rowOf i (below j k M) i′ c) (spot i j (by-row k M j i) i′ c) ≡ rowOf i (with-row k M j) i′ c
   unfolding rowOf below only spot with-row
@@ -154,7 +154,7 @@ pub others-more : (k : ℕ) (right : Rule) (size s i j t : ℕ) (m m′ : Meanin
     → Plus k size was (λ b r. only (eqb r i) (others (t + 1) j (held m b i))) (λ b. linesBut k right i j (rowOf i (below j (t + 1) (held m b)))) after
 others-more k right size s i j t m m′ f was mid after h e p q =
     plus-same k size was _ _ _ _ after
-    (λ b r _ _. sym (only-xor (eqb r i) (others t j (held m b i)) (unless m i j t b)) ∙ ap (only (eqb r i)) (others-next i j (held m b) t))
+    (λ b r _ _. sym (only-xor (eqb r i) (others t j (held m b i)) (unless m i j t b)) ∙ ap (only (eqb r i)) (others-next j t (held m b i)))
     (λ b n _ nl.
     but-more k right i j (rowOf i (below j t (held m b))) (spot i t (unless m i j t b)) (rowOf i (below j (t + 1) (held m b)))
     (λ i′ c _ _. row-more i j (held m b) t i′ c) n nl)

@@ -1,7 +1,7 @@
 -- A data column j that alone is out: its blocks, found by reading half of every other column.
 use mathlib.Core.Path.{_≡_}
 use mathlib.Core.Logic.{_≢_}
-use mathlib.Core.Bool.{Bool, true, false, not, cond, _&&_}
+use mathlib.Core.Bool.{Bool, true, false, not, cond, _&&_, Bool·beq}
 use mathlib.Core.List.{List}
 use Prim.Native.Nat.{ℕ, _+_, _-_, _^_, _<_}
 use lib.Bits.{bitXor}
@@ -9,7 +9,8 @@ use lib.Dec.{eqb, ltb}
 use lib.ListN.{getD}
 use Rattle.tray.specs.Meaning.{Meaning}
 use Rattle.code.specs.Numbers.{only}
-use Rattle.code.specs.Code.{Blocks, Rule, rows, dark, meets, butterfly}
+use Rattle.code.specs.Code.{Blocks, Rule, rows, dark, meets, butterfly, gives}
+use Rattle.code.specs.Lines.{takes}
 use Rattle.code.specs.Widths.{isWidth}
 use Rattle.law.specs.Holding.{held}
 use Rattle.law.specs.Hand.{by-row, with-row, regained}
@@ -89,3 +90,18 @@ pub record Halfway (k : ℕ) (right : Rule) (size j : ℕ) (M : ℕ → Blocks) 
   pub row : (b i : ℕ) → b < size → i < n → dark i j ≡ true → rowSlot size work b i ≡ by-row k (M b) j i
   pub line : (b i : ℕ) → b < size → i < rows k → dark i j ≡ false
       → lineSlot k size work b (meets i j) ≡ bitXor (M b (meets i j) (k + 1)) (butterfly k right (darkBelow j n (with-row k (M b) j)) (meets i j))
+
+-- ---- one block
+
+-- bytes were added to a block
+abbrev pub BytesAdded : ℕ → List ℕ → (ℕ → ℕ) → List ℕ → Type 0
+BytesAdded size was f after = (b : ℕ) → b < size → getD after b 0 ≡ bitXor (getD was b 0) (f b)
+
+-- Where a line meets column t in row i, it may take the block of column j, and then that is the sum of all others in the
+-- row. So the block of column c counts if the line takes just one of the blocks of the columns c and j.
+unfoldable pub wants : Rule → ℕ → ℕ → ℕ → ℕ → Bool
+wants right i t j c = not (eqb c j) && not (Bool·beq (takes right i t c) (takes right i t j))
+
+-- what a line takes where it meets column t in row i, with column j by the rows' sums
+abbrev pub taken : ℕ → Rule → Blocks → ℕ → ℕ → ℕ → ℕ
+taken k right M j i t = gives k right (with-row k M j) i t

@@ -1,27 +1,33 @@
 // A data column that alone is out, found by reading half of every other column: the rows that are dark for it, and the
 // lines through its white places.
 ghost use mathlib.Core.Path.{_≡_};
-ghost use mathlib.Core.Bool.{cond};
+ghost use mathlib.Core.Bool.{true, not, cond};
 ghost use Prim.Native.Nat.{_+_, _-_, _<_};
+ghost use lib.Bits.{bitXor};
 ghost use lib.Dec.{eqb};
 ghost use lib.ListN.{length};
 ghost use Rattle.code.specs.Numbers.{only, count};
-ghost use Rattle.code.specs.Code.{spot, rows, dark};
+ghost use Rattle.code.specs.Code.{spot, rows, dark, meets};
 ghost use Rattle.code.specs.Neighbours.{published};
-ghost use Rattle.law.specs.Holding.{held};
-ghost use Rattle.law.specs.Hand.{others};
+ghost use Rattle.law.specs.Holding.{held, Calm};
+ghost use Rattle.law.specs.Hand.{others, by-row, regained, Bytes};
 ghost use Rattle.shelf.specs.Slots.{Room, Plus};
 ghost use Rattle.shelf.specs.Reading.{afterReads, times};
-ghost use Rattle.shelf.specs.Regaining.{Alone, onceBelow, ofRows, rowOf, below, linesBut, unless, RowFound, LinesRead, Halfway, halfOf, Found};
+ghost use Rattle.shelf.specs.Regaining.{Alone, onceBelow, ofRows, rowOf, below, linesBut, unless, RowFound, LinesRead, Halfway, halfOf, Found, BytesAdded, wants, taken};
+ghost use Rattle.shelf.specs.Blocks.{Ready};
 use crate::blocks::fetch;
 use crate::slots::add;
 use crate::slots::copy_slot;
 use crate::slots::fetch_slot;
 use crate::sums::add_to_lines;
 use crate::sums::line_slot;
+use code::lines::is_taken;
+use code::places::Line;
 use code::places::Row;
 use code::widths::rows_of;
 use tray::trays::Tray;
+
+// ---- the whole column
 
 // Reads a row of a data column, unless it is the lost one, and adds the block to the sum of the row, and to those of the
 // lines that hold it, but for the line through the lost place.
@@ -131,4 +137,152 @@ pub(crate) fn regain<T: Tray>(tray: &mut T, k: u32, column: u32, block: &mut [u8
 {
     read_lines(tray, k, column, block.len(), work);
     regain_rows(tray, k, column, block, work);
+}
+
+// ---- one block
+
+// Reads a block if it is wanted, and adds it to another.
+fn add_if<T: Tray>(
+    tray: &mut T,
+    wanted: bool,
+    column: u32,
+    row: Row,
+    scratch: &mut [u8],
+    block: &mut [u8],
+)
+    requires { ⌜ (wanted ≡ true → Ready (T·Tray .meaning (now tray)) column (row .0) (length (now scratch))) ⌝ ∗ ⌜ length (now scratch) ≡ length (now block) ⌝ }
+    ensures tray { λ _. ⌜ Calm (T·Tray .meaning (now (tray .entry))) (T·Tray .meaning (now (tray .exit))) ⌝ }
+    ensures block { λ _. ⌜ BytesAdded (length (now (block .entry))) (now (block .entry)) (λ b. only wanted (held (T·Tray .meaning (now (tray .entry))) b (row .0) column)) (now (block .exit)) ⌝ }
+{
+    if wanted {
+        fetch(tray, column, row.0, scratch);
+        add(block, 0, scratch);
+    }
+}
+
+// Whether the block of a column has to be added for what a line takes where it meets the column `through` in this row.
+fn is_wanted(k: u32, row: Row, through: u32, lost: u32, column: u32) -> bool
+    ensures { λ r. ⌜ r ≡ wants (published k) (row .0) through lost column ⌝ }
+{
+    column != lost && is_taken(k, row, through, column) != is_taken(k, row, through, lost)
+}
+
+// Adds to a block what a line takes where it meets the data column `through` in this row, with the lost column by the
+// row's sum. No block is read twice.
+fn add_taken<T: Tray>(
+    tray: &mut T,
+    k: u32,
+    lost: u32,
+    row: Row,
+    through: u32,
+    scratch: &mut [u8],
+    block: &mut [u8],
+)
+    requires { ⌜ Alone k (length (now block)) (T·Tray .meaning (now tray)) lost ⌝ ∗ ⌜ length (now scratch) ≡ length (now block) ⌝ ∗ ⌜ row .0 < rows k ⌝ ∗ ⌜ through < k ⌝ }
+    ensures tray { λ _. ⌜ Calm (T·Tray .meaning (now (tray .entry))) (T·Tray .meaning (now (tray .exit))) ⌝ }
+    ensures block { λ _. ⌜ BytesAdded (length (now (block .entry))) (now (block .entry)) (λ b. taken k (published k) (held (T·Tray .meaning (now (tray .entry))) b) lost (row .0) through) (now (block .exit)) ⌝ }
+{
+    add_if(
+        tray,
+        is_taken(k, row, through, lost),
+        k,
+        row,
+        scratch,
+        block,
+    );
+    for column in 0..k {
+        add_if(
+            tray,
+            is_wanted(k, row, through, lost, column),
+            column,
+            row,
+            scratch,
+            block,
+        );
+    }
+}
+
+// The same for a line and a data column, unless that is the lost one.
+fn add_meeting<T: Tray>(
+    tray: &mut T,
+    k: u32,
+    lost: u32,
+    line: Line,
+    through: u32,
+    scratch: &mut [u8],
+    block: &mut [u8],
+)
+    requires { ⌜ Alone k (length (now block)) (T·Tray .meaning (now tray)) lost ⌝ ∗ ⌜ length (now scratch) ≡ length (now block) ⌝ ∗ ⌜ line .0 < rows k ⌝ ∗ ⌜ through < k ⌝ }
+    ensures tray { λ _. ⌜ Calm (T·Tray .meaning (now (tray .entry))) (T·Tray .meaning (now (tray .exit))) ⌝ }
+    ensures block { λ _. ⌜ BytesAdded (length (now (block .entry))) (now (block .entry)) (λ b. only (not (eqb through lost)) (taken k (published k) (held (T·Tray .meaning (now (tray .entry))) b) lost (meets (line .0) through) through)) (now (block .exit)) ⌝ }
+{
+    if through != lost {
+        add_taken(
+            tray,
+            k,
+            lost,
+            line.meeting(through),
+            through,
+            scratch,
+            block,
+        );
+    }
+}
+
+// Fills a block with what a line and the blocks in its sum say of the place where it meets the lost column.
+fn regain_by_line<T: Tray>(
+    tray: &mut T,
+    k: u32,
+    lost: u32,
+    line: Line,
+    scratch: &mut [u8],
+    block: &mut [u8],
+)
+    requires { ⌜ Alone k (length (now block)) (T·Tray .meaning (now tray)) lost ⌝ ∗ ⌜ length (now scratch) ≡ length (now block) ⌝ ∗ ⌜ line .0 < rows k ⌝ }
+    ensures tray { λ _. ⌜ Calm (T·Tray .meaning (now (tray .entry))) (T·Tray .meaning (now (tray .exit))) ⌝ }
+    ensures block { λ _. ⌜ Bytes (length (now (block .entry))) (now (block .exit)) (λ b. bitXor (held (T·Tray .meaning (now (tray .entry))) b (line .0) (k + 1)) (others k lost (λ c. taken k (published k) (held (T·Tray .meaning (now (tray .entry))) b) lost (meets (line .0) c) c))) ⌝ }
+{
+    fetch(tray, k + 1, line.0, block);
+    for through in 0..k {
+        add_meeting(tray, k, lost, line, through, scratch, block);
+    }
+}
+
+// Fills a block with what the row's sum and the other data blocks say of a row of the lost column.
+fn regain_by_row<T: Tray>(
+    tray: &mut T,
+    k: u32,
+    lost: u32,
+    row: Row,
+    scratch: &mut [u8],
+    block: &mut [u8],
+)
+    requires { ⌜ Alone k (length (now block)) (T·Tray .meaning (now tray)) lost ⌝ ∗ ⌜ length (now scratch) ≡ length (now block) ⌝ ∗ ⌜ row .0 < rows k ⌝ }
+    ensures tray { λ _. ⌜ Calm (T·Tray .meaning (now (tray .entry))) (T·Tray .meaning (now (tray .exit))) ⌝ }
+    ensures block { λ _. ⌜ Bytes (length (now (block .entry))) (now (block .exit)) (λ b. by-row k (held (T·Tray .meaning (now (tray .entry))) b) lost (row .0)) ⌝ }
+{
+    fetch(tray, k, row.0, block);
+    for column in 0..k {
+        add_if(tray, column != lost, column, row, scratch, block);
+    }
+}
+
+// Fills a block with a row of a data column that alone is out, from its row or its line only.
+pub(crate) fn regain_block<T: Tray>(
+    tray: &mut T,
+    k: u32,
+    column: u32,
+    row: Row,
+    scratch: &mut [u8],
+    block: &mut [u8],
+)
+    requires { ⌜ Alone k (length (now block)) (T·Tray .meaning (now tray)) column ⌝ ∗ ⌜ length (now scratch) ≡ length (now block) ⌝ ∗ ⌜ row .0 < rows k ⌝ }
+    ensures tray { λ _. ⌜ Calm (T·Tray .meaning (now (tray .entry))) (T·Tray .meaning (now (tray .exit))) ⌝ }
+    ensures block { λ _. ⌜ Bytes (length (now (block .entry))) (now (block .exit)) (λ b. regained k (published k) (held (T·Tray .meaning (now (tray .entry))) b) column (row .0)) ⌝ }
+{
+    if row.is_dark(column) {
+        regain_by_row(tray, k, column, row, scratch, block);
+    } else {
+        regain_by_line(tray, k, column, row.line(column), scratch, block);
+    }
 }

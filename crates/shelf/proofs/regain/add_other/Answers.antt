@@ -3,7 +3,7 @@ use mathlib.Core.Logic.{_≢_}
 use mathlib.Core.Bool.{not, cond}
 use Prim.Native.Nat.{ℕ, _+_, _*_, _≤_}
 use native.Mathlib.Omega.{arith}
-use lib.Bits.{bitXor, xor-zero-r}
+use lib.Bits.{xor-zero-r}
 use lib.Dec.{eqb}
 use lib.ListN.{length, getD}
 use borrow.Author.Tests.{eq-true, ne-false}
@@ -18,14 +18,22 @@ use Rattle.shelf.specs.Reading.{afterReads, times}
 use Rattle.shelf.specs.Regaining.{linesBut, unless}
 use Rattle.shelf.proofs.Adding.{has-slot, plus-none, plus-row, plus-same, plus-plus}
 use Rattle.shelf.proofs.Gathering.{column-none}
-use Rattle.shelf.proofs.Regaining.{read-one, to-lines-but, but-none}
+use Rattle.shelf.proofs.Regaining.{may-read, room-still, read-one, to-lines-but, but-none}
 use Rattle.shelf.proofs.regain.add_other.Needs as need
+
+pub fetch-requires : need.fetch-requires
+fetch-requires g c κs =
+    may-read (c .args .k) _ _ (c .args .lost) (c .pre .1 .0) (c .args .column) (c .args .row .0) _ (omega arith) (omega arith) (c .pre .1 .1 .0) refl
 
 pub add-requires : need.add-requires
 add-requires g c κs =
     let e : length (c .args .block .now) ≡ length (c .fetch .last .block) = omega arith in
     subst (λ s. (c .args .row .0 + 1) * s ≤ length (c .args .work .now)) e
     (has-slot (c .args .k) (length (c .args .block .now)) (c .args .work .now) (c .pre .0) (c .args .row .0) (omega arith))
+
+pub add-to-lines-requires : need.add-to-lines-requires
+add-to-lines-requires g c κs =
+    (room-still (c .args .k) (length (c .args .block .now)) _ (c .args .work .now) _ (omega arith) (omega arith) (c .pre .0), c .pre .1 .1 .0)
 
 pub returns-then-column-lost : need.returns-then-column-lost
 returns-then-column-lost g c =

@@ -1,5 +1,4 @@
-use mathlib.Core.Path.{_≡_, refl, sym, ap, _∙_, subst}
-use Prim.Native.Nat.{ℕ, _+_, _*_, _≤_}
+use mathlib.Core.Path.{_≡_, refl, _∙_, subst}
 use native.Mathlib.Omega.{arith}
 use lib.Dec.{eqb}
 use lib.ListN.{length}
@@ -12,7 +11,7 @@ use Rattle.shelf.specs.Slots.{Plus, IsSlot, nothing, toLines}
 use Rattle.shelf.specs.Reading.{times}
 use Rattle.shelf.specs.Regaining.{onceBelow, rowOf, below, linesBut}
 use Rattle.shelf.proofs.Adding.{has-slot}
-use Rattle.shelf.proofs.Regaining.{may-read, room-still, alone-reads, read-one, reads-after, row-reads, row-found}
+use Rattle.shelf.proofs.Regaining.{may-read, room-still, read-one, reads-after, row-reads, row-found}
 use Rattle.shelf.proofs.regain.regain_row.Needs as need
 
 pub fetch-slot-requires : need.fetch-slot-requires
