@@ -12,3 +12,4 @@ pub mod Solving
 pub mod Recovering
 pub mod Regaining
 pub mod Sweeping
+pub mod Rebuilding

@@ -4,6 +4,7 @@ mod checks;
 pub mod drill;
 mod gather;
 pub mod layout;
+pub mod rebuild;
 mod recover;
 mod regain;
 pub mod roster;
