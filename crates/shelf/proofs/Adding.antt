@@ -29,6 +29,9 @@ has-slot-for k size len work room e s l = subst (λ x. (s + 1) * x ≤ length wo
 pub room-kept : (k size : ℕ) (was work : List ℕ) → Room k size was → length work ≡ length was → Room k size work
 room-kept k size was work room e = record { width = room .width; large = omega (arith, room .large) }
 
+pub room-kept-for : (k size len : ℕ) (was work : List ℕ) → Room k size was → length work ≡ length was → len ≡ size → Room k len work
+room-kept-for k size len was work room e f = subst (λ x. Room k x work) (sym f) (room-kept k size was work room e)
+
 -- as many rows as the code counts
 pub rows-are : (k size : ℕ) (work : List ℕ) → Room k size work → (n : ℕ) → n ≡ cond (isWidth k) (rows k) 0 → n ≡ rows k
 rows-are k size work room n e = e ∙ ap (λ b. cond b (rows k) 0) (room .width)

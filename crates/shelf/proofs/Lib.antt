@@ -20,4 +20,5 @@ pub mod Sweeping
 pub mod Settling
 pub mod Ranks
 pub mod Finding
+pub mod Recovered
 pub mod OneBlock

@@ -171,10 +171,10 @@ white-parts k right p q v w pair l =
     let is : count k (λ i. (W i && not (eqb i p)) && not (eqb i q)) ≡ whites k p q v = count-same k _ _ (λ i _. regroup (W i) (not (eqb i p)) (not (eqb i q))) in
     let at-p : cond {A = ℕ} (ltb p k && W p) 1 0 ≡ cond {A = ℕ} (dark v p) 0 1 = ap (λ b. cond {A = ℕ} (b && W p) 1 0) (sym (lt-true p k (pair .first))) ∙ flip (dark v p) in
     let at-q : cond {A = ℕ} (ltb q k && (W q && not (eqb q p))) 1 0 ≡ cond {A = ℕ} (dark v q) 0 1 =
-        ap (λ b. cond {A = ℕ} (ltb q k && (W q && not b)) 1 0) (sym (ne-false q p (λ e. pair .apart (sym e)))) ∙ elim (decLt q k) [
-          | yes ql ↦ ap (λ b. cond {A = ℕ} (b && (not (dark v q) && true)) 1 0) (sym (lt-true q k ql)) ∙ flip₂ (dark v q)
-          | no h ↦ ap (λ b. cond {A = ℕ} (b && (not (dark v q) && true)) 1 0) (sym (le-false q k (omega arith))) ∙ ap (λ b. cond {A = ℕ} b 0 1) (sym (dark-above (k - 1) v q l (omega arith)))
-        ] in
+    ap (λ b. cond {A = ℕ} (ltb q k && (W q && not b)) 1 0) (sym (ne-false q p (λ e. pair .apart (sym e)))) ∙ elim (decLt q k) [
+      | yes ql ↦ ap (λ b. cond {A = ℕ} (b && (not (dark v q) && true)) 1 0) (sym (lt-true q k ql)) ∙ flip₂ (dark v q)
+      | no h ↦ ap (λ b. cond {A = ℕ} (b && (not (dark v q) && true)) 1 0) (sym (le-false q k (omega arith))) ∙ ap (λ b. cond {A = ℕ} b 0 1) (sym (dark-above (k - 1) v q l (omega arith)))
+    ] in
     omega arith
   where
     split : (k : ℕ) → k ≤ 11 → 33 ≡ k + (33 - k)

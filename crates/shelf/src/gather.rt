@@ -41,7 +41,15 @@ fn load<T: Tray>(tray: &mut T, k: u32, column: u32, first: usize, size: usize, w
 }
 
 // Fills the slots from `first` on with a parity column if it is to be read, and else with zeros.
-fn begin<T: Tray>(tray: &mut T, k: u32, column: u32, is_read: bool, first: usize, size: usize, work: &mut [u8])
+fn begin<T: Tray>(
+    tray: &mut T,
+    k: u32,
+    column: u32,
+    is_read: bool,
+    first: usize,
+    size: usize,
+    work: &mut [u8],
+)
     requires { ⌜ Room k size (now work) ⌝ ∗ ⌜ («is_read» ≡ true → Answers k size (T·Tray .meaning (now tray)) column) ⌝ ∗ ⌜ first ≤ rows k ⌝ }
     ensures tray { λ _. ⌜ T·Tray .meaning (now (tray .exit)) ≡ afterReads (T·Tray .meaning (now (tray .entry))) (times column (cond «is_read» (rows k) 0)) ⌝ }
     ensures work { λ _. ⌜ Filled size (now (work .entry)) first (rows k) (λ r b. only «is_read» (held (T·Tray .meaning (now (tray .entry))) b r column)) (now (work .exit)) ⌝ }
@@ -54,7 +62,13 @@ fn begin<T: Tray>(tray: &mut T, k: u32, column: u32, is_read: bool, first: usize
 }
 
 // Reads a data column once and adds its blocks to the sums, by way of a block of scratch space.
-pub(crate) fn gather_column<T: Tray>(tray: &mut T, k: u32, column: u32, block: &mut [u8], work: &mut [u8])
+pub(crate) fn gather_column<T: Tray>(
+    tray: &mut T,
+    k: u32,
+    column: u32,
+    block: &mut [u8],
+    work: &mut [u8],
+)
     requires { ⌜ Room k (length (now block)) (now work) ⌝ ∗ ⌜ Answers k (length (now block)) (T·Tray .meaning (now tray)) column ⌝ ∗ ⌜ column < k ⌝ }
     ensures tray { λ _. ⌜ T·Tray .meaning (now (tray .exit)) ≡ afterReads (T·Tray .meaning (now (tray .entry))) (times column (rows k)) ⌝ }
     ensures work { λ _. ⌜ Summed k (published k) (length (now (block .entry))) (now (work .entry)) (λ b. part column (rows k) (held (T·Tray .meaning (now (tray .entry))) b)) (now (work .exit)) ⌝ }
@@ -66,7 +80,14 @@ pub(crate) fn gather_column<T: Tray>(tray: &mut T, k: u32, column: u32, block: &
 }
 
 // The same for a data column that may be out: then there is nothing to add.
-fn gather_served<T: Tray>(tray: &mut T, k: u32, out: Missing, column: u32, block: &mut [u8], work: &mut [u8])
+fn gather_served<T: Tray>(
+    tray: &mut T,
+    k: u32,
+    out: Missing,
+    column: u32,
+    block: &mut [u8],
+    work: &mut [u8],
+)
     requires { ⌜ Room k (length (now block)) (now work) ⌝ ∗ ⌜ Heard k (length (now block)) (isOut out) (T·Tray .meaning (now tray)) ⌝ ∗ ⌜ column < k ⌝ }
     ensures tray { λ _. ⌜ T·Tray .meaning (now (tray .exit)) ≡ afterReads (T·Tray .meaning (now (tray .entry))) (times column (cond (isOut out column) 0 (rows k))) ⌝ }
     ensures work { λ _. ⌜ Summed k (published k) (length (now (block .entry))) (now (work .entry)) (λ b. inService (isOut out) column (held (T·Tray .meaning (now (tray .entry))) b)) (now (work .exit)) ⌝ }
@@ -96,6 +117,14 @@ pub(crate) fn gather<T: Tray>(tray: &mut T, k: u32, out: Missing, block: &mut [u
 {
     let size = block.len();
     begin(tray, k, k, out.reads_parity(k, k), 0, size, work);
-    begin(tray, k, k + 1, out.reads_parity(k, k + 1), rows_of(k) as usize, size, work);
+    begin(
+        tray,
+        k,
+        k + 1,
+        out.reads_parity(k, k + 1),
+        rows_of(k) as usize,
+        size,
+        work,
+    );
     gather_data(tray, k, out, block, work);
 }

@@ -65,21 +65,42 @@ fn find_with_parity(work: &mut [u8], k: u32, column: u32, parity: u32, block: &m
     }
 }
 
+// Finds two columns, and answers the one that lies by rows.
+fn find_two(work: &mut [u8], k: u32, a: u32, b: u32, block: &mut [u8]) -> u32
+    requires { ⌜ Room k (length (now block)) (now work) ⌝ ∗ ⌜ areColumns k (Missing.Two a b) ≡ true ⌝ }
+    ensures { λ r. ⌜ Finds k (published k) (length (now (block .entry))) (Missing.Two a b) (now (work .entry)) r (now (work .exit)) ⌝ }
+{
+    if a >= k && b >= k {
+        k
+    } else if b >= k {
+        find_with_parity(work, k, a, b, block)
+    } else if a >= k {
+        find_with_parity(work, k, b, a, block)
+    } else {
+        find_data(work, k, a, b, block)
+    }
+}
+
 // Finds the missing columns from what was gathered, and answers the column that lies by rows.
 fn find(work: &mut [u8], k: u32, out: Missing, block: &mut [u8]) -> u32
     requires { ⌜ Room k (length (now block)) (now work) ⌝ ∗ ⌜ areColumns k out ≡ true ⌝ ∗ ⌜ isSoleData k out ≡ false ⌝ }
     ensures { λ r. ⌜ Finds k (published k) (length (now (block .entry))) out (now (work .entry)) r (now (work .exit)) ⌝ }
 {
     match out {
-        Missing::Two(a, b) if a < k && b < k => find_data(work, k, a, b, block),
-        Missing::Two(a, b) if a < k => find_with_parity(work, k, a, b, block),
-        Missing::Two(a, b) if b < k => find_with_parity(work, k, b, a, block),
-        _ => k,
+        Missing::Nothing => k,
+        Missing::One(_) => k,
+        Missing::Two(a, b) => find_two(work, k, a, b, block),
     }
 }
 
 // Finds the missing columns, and answers the column whose blocks then lie in the slots of the rows.
-pub(crate) fn recover<T: Tray>(tray: &mut T, k: u32, out: Missing, block: &mut [u8], work: &mut [u8]) -> u32
+pub(crate) fn recover<T: Tray>(
+    tray: &mut T,
+    k: u32,
+    out: Missing,
+    block: &mut [u8],
+    work: &mut [u8],
+) -> u32
     requires { ⌜ Room k (length (now block)) (now work) ⌝ ∗ ⌜ Heard k (length (now block)) (isOut out) (T·Tray .meaning (now tray)) ⌝ ∗ ⌜ areColumns k out ≡ true ⌝ ∗ ⌜ isSoleData k out ≡ false ⌝ }
     ensures tray { λ _. ⌜ T·Tray .meaning (now (tray .exit)) ≡ afterReads (T·Tray .meaning (now (tray .entry))) (onceEach k (isOut out)) ⌝ }
     ensures work { λ r. ⌜ Found k (published k) (length (now (block .entry))) (isOut out) (T·Tray .meaning (now (tray .entry))) r (now (work .exit)) ⌝ }

@@ -42,7 +42,14 @@ pub(crate) fn clear_slot(work: &mut [u8], slot: usize, size: usize)
 }
 
 // Reads a block of a tray straight into a slot.
-pub(crate) fn fetch_slot<T: Tray>(tray: &mut T, column: u32, row: u32, work: &mut [u8], slot: usize, size: usize)
+pub(crate) fn fetch_slot<T: Tray>(
+    tray: &mut T,
+    column: u32,
+    row: u32,
+    work: &mut [u8],
+    slot: usize,
+    size: usize,
+)
     requires { ⌜ Ready (T·Tray .meaning (now tray)) column row size ⌝ ∗ ⌜ (slot + 1) * size ≤ length (now work) ⌝ }
     ensures tray { λ _. ⌜ T·Tray .meaning (now (tray .exit)) ≡ tallied (T·Tray .meaning (now (tray .entry))) column ⌝ }
     ensures work { λ _. ⌜ SlotSet size (now (work .entry)) slot (λ b. held (T·Tray .meaning (now (tray .entry))) b row column) (now (work .exit)) ⌝ }

@@ -31,7 +31,15 @@ fn is_passed(k: u32, row: Row, column: u32, skip: u32, through: u32) -> bool
 }
 
 // Adds a block of the place in `column` to the line that meets the column `through` in this row, if it goes there.
-fn add_through(work: &mut [u8], k: u32, row: Row, column: u32, skip: u32, through: u32, block: &[u8])
+fn add_through(
+    work: &mut [u8],
+    k: u32,
+    row: Row,
+    column: u32,
+    skip: u32,
+    through: u32,
+    block: &[u8],
+)
     requires { ⌜ Room k (length (now block)) (now work) ⌝ ∗ ⌜ row .0 < rows k ⌝ ∗ ⌜ through < k ⌝ }
     ensures { λ _. ⌜ Plus k (length (now (block .entry))) (now (work .entry)) nothing (λ b n. only (eqb n (meets (row .0) through) && passes (published k) (row .0) column skip through) (getD (now (block .entry)) b 0)) (now (work .exit)) ⌝ }
 {

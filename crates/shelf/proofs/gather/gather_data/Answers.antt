@@ -15,9 +15,10 @@ pub loop-column-holds : need.loop-column-holds
 loop-column-holds g c =
     let m = g .T·Tray .meaning (c .args .tray .now) in
     let k = c .args .k in
-    let out = isOut (c .args .out) in
-    (reads-none m (g .T·Tray .wraps (c .args .tray .now)) ∙ reads-same m (λ _. 0) (eachBelow out (rows k) 0) (λ x. sym (each-none out (rows k) x)),
-      sums-none k (published k) (length (c .args .block .now)) (c .args .work .now) (λ b. served out 0 (held m b)) (λ b i x. served-none out (held m b) i x))
+    let out = isOut (c .args .out) in (
+      reads-none m (g .T·Tray .wraps (c .args .tray .now)) ∙ reads-same m (λ _. 0) (eachBelow out (rows k) 0) (λ x. sym (each-none out (rows k) x)),
+      sums-none k (published k) (length (c .args .block .now)) (c .args .work .now) (λ b. served out 0 (held m b)) (λ b i x. served-none out (held m b) i x),
+    )
 
 pub loop-column-again : need.loop-column-again
 loop-column-again g c =
@@ -25,8 +26,9 @@ loop-column-again g c =
     let k = c .args .k in
     let j = c .loop-column .column in
     let out = isOut (c .args .out) in
-    let f : ℕ → ℕ = eachBelow out (rows k) j in
-    (c .gather-served .ensures .tray ∙ ap (λ x. afterReads x (times j (cond (out j) 0 (rows k)))) (c .loop-column .inv .0)
-    ∙ reads-reads m f (times j (cond (out j) 0 (rows k))) ∙ reads-same m _ (eachBelow out (rows k) (j + 1)) (each-more out (rows k) j),
+    let f : ℕ → ℕ = eachBelow out (rows k) j in (
+      c .gather-served .ensures .tray ∙ ap (λ x. afterReads x (times j (cond (out j) 0 (rows k)))) (c .loop-column .inv .0)
+          ∙ reads-reads m f (times j (cond (out j) 0 (rows k))) ∙ reads-same m _ (eachBelow out (rows k) (j + 1)) (each-more out (rows k) j),
       column-added k (published k) (length (c .args .block .now)) (c .args .work .now) (c .loop-column .work) (c .gather-served .last .work) m _ f out j
-      (length (c .loop-column .block)) (c .loop-column .kept .block) (c .loop-column .inv .0) (c .loop-column .inv .1) (c .gather-served .ensures .work))
+          (length (c .loop-column .block)) (c .loop-column .kept .block) (c .loop-column .inv .0) (c .loop-column .inv .1) (c .gather-served .ensures .work),
+    )
