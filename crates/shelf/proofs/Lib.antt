@@ -22,3 +22,5 @@ pub mod Ranks
 pub mod Finding
 pub mod Recovered
 pub mod OneBlock
+pub mod Rebuilding
+pub mod Refilling
