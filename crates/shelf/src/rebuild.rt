@@ -3,25 +3,35 @@ ghost use mathlib.Core.Path.{_≡_};
 ghost use mathlib.Core.Bool.{true};
 ghost use Prim.Native.Nat.{_+_, _*_, _<_, _≤_};
 ghost use lib.ListN.{length};
-ghost use Rattle.tray.specs.Meaning.{stored};
+ghost use Rattle.tray.specs.Meaning.{stored, ifOk};
 ghost use Rattle.code.specs.Code.{rows};
 ghost use Rattle.code.specs.Neighbours.{published};
 ghost use Rattle.code.specs.Widths.{isWidth};
+ghost use Rattle.law.specs.Service.{removed};
+ghost use Rattle.law.specs.Calls.{Rebuilt};
+ghost use Rattle.law.specs.Promises.{Spares};
 ghost use Rattle.shelf.specs.Missing.{isOut, areColumns};
+ghost use Rattle.shelf.specs.Rosters.{rosterOf, back-in};
+ghost use Rattle.shelf.specs.Checks.{rebuilding};
+ghost use Rattle.shelf.specs.Layouts.{given};
+ghost use Rattle.shelf.specs.Promises.{RebuildsOn};
 ghost use Rattle.shelf.specs.Blocks.{Ready};
 ghost use Rattle.shelf.specs.Slots.{Room};
 ghost use Rattle.shelf.specs.Reading.{Answers, Heard};
 ghost use Rattle.shelf.specs.Recovering.{isSoleData};
 ghost use Rattle.shelf.specs.Regaining.{soleSlot};
-ghost use Rattle.shelf.specs.Rebuilding.{slotOf, pairOf, Located, slotBlock, written, readsFor};
+ghost use Rattle.shelf.specs.Rebuilding.{slotOf, pairOf, Located, slotBlock, written, readsFor, readsOf, RebuildCarries};
 use crate::blocks::place;
 use crate::recover::recover;
 use crate::recover::slot_for;
 use crate::regain::regain;
+use crate::roster::Roster;
 use crate::roster::missing::Missing;
+use crate::scratch::Scratch;
 use crate::sums::line_slot;
 use code::places::Row;
 use code::widths::rows_of;
+use tray::fault::Fault;
 use tray::trays::Tray;
 
 // Where the rows of a missing column lie in the work space, once it is found.
@@ -138,6 +148,55 @@ fn write_column<T: Tray>(
     ensures { λ _. ⌜ T·Tray .meaning (now (tray .exit)) ≡ written (T·Tray .meaning (now (tray .entry))) column (rows k) (λ i. slotBlock size (now (work .entry)) (slotOf k found column i)) ⌝ }
 {
     for row in 0..rows_of(k) {
-        place_slot(tray, column, row, work, found.slot(k, column, Row(row)), size);
+        place_slot(
+            tray,
+            column,
+            row,
+            work,
+            found.slot(k, column, Row(row)),
+            size,
+        );
+    }
+}
+
+// Finds a missing column and writes it, and answers the number of blocks that were read. The block is scratch space.
+fn refill<T: Tray>(
+    tray: &mut T,
+    k: u32,
+    out: Missing,
+    column: u32,
+    block: &mut [u8],
+    work: &mut [u8],
+) -> u32
+    requires { ⌜ Room k (length (now block)) (now work) ⌝ ∗ ⌜ Heard k (length (now block)) (isOut out) (T·Tray .meaning (now tray)) ⌝ ∗ ⌜ T·Tray .meaning (now tray) .answers column ≡ true ⌝ ∗ ⌜ areColumns k out ≡ true ⌝ ∗ ⌜ isOut out column ≡ true ⌝ }
+    ensures count { λ r. ⌜ r ≡ readsOf k out ⌝ }
+    ensures done { λ r. ⌜ Rebuilt k (published k) (length (now (block .entry))) (isOut out) (T·Tray .meaning (now (tray .entry))) column r (removed (isOut out) column) (T·Tray .meaning (now (tray .exit))) ⌝ }
+{
+    let found = locate(tray, k, out, column, block, work);
+    write_column(tray, k, column, found, block.len(), work);
+    found.reads(k)
+}
+
+impl Roster {
+    // Fills a column that is out, data or parity, with the data at hand or their parity, and puts it in service again.
+    // Answers the number of blocks that were read.
+    pub fn rebuild<T: Tray>(
+        &mut self,
+        tray: &mut T,
+        column: u32,
+        work: &mut [u8],
+    ) -> Result<u32, Fault>
+        ensures value { λ r. ⌜ r ≡ given (rebuilding (rosterOf (now (self .entry))) (T·Tray .meaning (now (tray .entry))) column (length (now (work .entry)))) (readsOf (rosterOf (now (self .entry)) .width) (rosterOf (now (self .entry)) .missing)) ⌝ }
+        ensures after { λ r. ⌜ rosterOf (now (self .exit)) ≡ ifOk r (back-in (rosterOf (now (self .entry))) column) (rosterOf (now (self .entry))) ⌝ }
+        ensures done { λ r. ⌜ RebuildsOn (rosterOf (now (self .entry))) (T·Tray .meaning (now (tray .entry))) column r (rosterOf (now (self .exit))) (T·Tray .meaning (now (tray .exit))) ⌝ }
+        ensures work { λ r. ⌜ Spares (now (work .entry)) r (now (work .exit)) ⌝ }
+        ensures carries { λ r. ⌜ RebuildCarries (rosterOf (now (self .entry))) (T·Tray .meaning (now (tray .entry))) (T·Tray .sized (now (tray .entry))) column r (rosterOf (now (self .exit))) (T·Tray .meaning (now (tray .exit))) (T·Tray .sized (now (tray .exit))) ⌝ }
+    {
+        self.check_rebuild(tray, column, work.len())?;
+        let mut scratch = Scratch::new();
+        let block = scratch.block(self.size());
+        let reads = refill(tray, self.width(), self.missing(), column, block, work);
+        self.put_back(column);
+        Ok(reads)
     }
 }

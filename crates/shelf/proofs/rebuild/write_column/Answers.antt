@@ -9,7 +9,8 @@ use Rattle.shelf.proofs.rebuild.write_column.Needs as need
 
 pub place-slot-requires : need.place-slot-requires
 place-slot-requires g c κs =
-    let e = rows-are (c .args .k) _ _ (c .pre .0) _ (c .rows-of-row-end .ensures) in
-    (ready-still _ _ _ _ _ _ (c .loop-row .inv)
-      (answers-ready (c .args .k) (c .args .size) (g .T·Tray .meaning (c .args .tray .now)) (c .args .column) (c .pre .1 .0) (c .loop-row .row) (omega arith)),
-      has-slot (c .args .k) (c .args .size) (c .args .work .now) (c .pre .0) (c .slot .result) (c .slot .ensures .within))
+    let e = rows-are (c .args .k) _ _ (c .pre .0) _ (c .rows-of-row-end .ensures) in (
+      ready-still _ _ _ _ _ _ (c .loop-row .inv)
+          (answers-ready (c .args .k) (c .args .size) (g .T·Tray .meaning (c .args .tray .now)) (c .args .column) (c .pre .1 .0) (c .loop-row .row) (omega arith)),
+      has-slot (c .args .k) (c .args .size) (c .args .work .now) (c .pre .0) (c .slot .result) (c .slot .ensures .within),
+    )
