@@ -1,20 +1,19 @@
 -- A column that was found and written is rebuilt.
 use mathlib.Core.Path.{_≡_, refl, sym, ap, ap₂, _∙_, subst}
-use mathlib.Core.Logic.{_≢_, _⊎_, inl, inr}
+use mathlib.Core.Logic.{_≢_}
 use mathlib.Core.Bool.{Bool, true, false, not, cond, _&&_, _||_, true≢false}
 use mathlib.Core.List.{List}
-use Prim.Native.Nat.{ℕ, suc, _+_, _-_, _*_, _%_, _^_, _<_, _≤_}
+use Prim.Native.Nat.{ℕ, _+_, _-_, _*_, _%_, _^_, _<_, _≤_}
 use native.Mathlib.Omega.{arith}
 use native.Mathlib.Decide.{ℕ-discrete, decLt}
 use lib.Dec.{eqb, ltb}
 use lib.ListN.{length, getD}
-use borrow.Author.Tests.{eq-true, ne-false, lt-true, le-false, eqb-true, eqb-false}
+use borrow.Author.Tests.{eq-true, ne-false, lt-true, le-false, eqb-true}
 use Rattle.std.proofs.shelf.Ways.{tells}
 use Rattle.std.specs.declared.result.Result.{Result}
 use Rattle.std.specs.declared.result.Result.the-variants.{Ok}
 use Rattle.tray.specs.declared.fault.Fault.{Fault}
 use Rattle.tray.specs.Meaning.{Meaning, Sized}
-use Rattle.code.specs.Numbers.{any}
 use Rattle.code.specs.Code.{Rule, rows, dark, meets, value}
 use Rattle.code.specs.Neighbours.{Tournament, published}
 use Rattle.code.specs.Laws.{lane}
@@ -25,7 +24,7 @@ use Rattle.code.proofs.Put.{any-none}
 use Rattle.code.proofs.Listed.{any-same}
 use Rattle.code.proofs.Linear.{value-data}
 use Rattle.law.specs.Service.{Columns, removed, Sole}
-use Rattle.law.specs.Holding.{Data, Whole, held, Fits, Shaped, SameFrame}
+use Rattle.law.specs.Holding.{Data, Whole, held, Fits, Shaped}
 use Rattle.law.specs.Hand.{AtHand, Bytes, regained}
 use Rattle.law.specs.Tallies.{reads, total, sources}
 use Rattle.law.specs.Calls.{Rebuilt}

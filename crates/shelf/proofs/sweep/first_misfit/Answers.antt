@@ -1,10 +1,9 @@
-use mathlib.Core.Path.{_≡_, sym, ap, _∙_, subst}
-use Prim.Native.Nat.{ℕ, _+_, _*_, _<_}
+use mathlib.Core.Path.{_≡_, sym, _∙_, subst}
+use Prim.Native.Nat.{ℕ, _+_, _*_}
 use native.Mathlib.Omega.{arith}
 use native.Mathlib.Nat.{add-mul}
 use borrow.Author.Count.{below-more}
 use lib.ListN.{length, getD}
-use Rattle.code.specs.Code.{rows}
 use Rattle.code.proofs.Limits.{few-rows}
 use Rattle.shelf.specs.Sweeping.{Agrees}
 use Rattle.shelf.proofs.Adding.{rows-are, has-slot-for}

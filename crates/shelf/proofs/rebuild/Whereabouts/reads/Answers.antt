@@ -1,8 +1,6 @@
-use mathlib.Core.Path.{_≡_, sym, ap, _∙_}
-use mathlib.Core.Bool.{cond}
+use mathlib.Core.Path.{sym, ap, _∙_}
 use Prim.Native.Nat.{_+_, _*_, _/_}
 use native.Mathlib.Omega.{arith}
-use Rattle.code.specs.Code.{rows}
 use Rattle.code.proofs.Limits.{a-width}
 use Rattle.shelf.specs.Rebuilding.{readsFor}
 use Rattle.shelf.proofs.Recovered.{rows-of-width}
