@@ -14,3 +14,5 @@ pub mod Regaining
 pub mod Hands
 pub mod Parities
 pub mod Rehearsals
+pub mod Sweeping
+pub mod Rebuilding
