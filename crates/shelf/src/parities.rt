@@ -64,7 +64,14 @@ fn add_to_lines<T: Tray>(
 }
 
 // Adds a change of a place in this row to the row's sum, if that is in service.
-fn add_to_sum<T: Tray>(tray: &mut T, k: u32, out: Missing, row: Row, block: &[u8], scratch: &mut [u8])
+fn add_to_sum<T: Tray>(
+    tray: &mut T,
+    k: u32,
+    out: Missing,
+    row: Row,
+    block: &[u8],
+    scratch: &mut [u8],
+)
     requires { ⌜ Heard k (length (now block)) (isOut out) (T·Tray .meaning (now tray)) ⌝ ∗ ⌜ row .0 < rows k ⌝ ∗ ⌜ length (now scratch) ≡ length (now block) ⌝ }
     ensures { λ _. ⌜ AddedAt (length (now (block .entry))) (T·Tray .meaning (now (tray .entry))) (now (block .entry)) (in-service (isOut out) (only-at k (row .0))) (T·Tray .meaning (now (tray .exit))) ⌝ }
 {

@@ -15,10 +15,13 @@ loop-through-holds g c =
 
 pub add-to-line-requires : need.add-to-line-requires
 add-to-line-requires g c κs =
-    let k = c .args .k in
-    (c .pre .0,
-      (answers-still k (length (c .args .block .now)) (k + 1) (g .T·Tray .meaning (c .args .tray .now)) (g .T·Tray .meaning (c .loop-through .tray)) (c .loop-through .inv .frame) (c .pre .1 .0),
-        (c .pre .1 .1 .0, (c .loop-through-test .taken, c .loop-through .kept .scratch ∙ c .pre .1 .1 .1))))
+    let k = c .args .k in (
+      c .pre .0,
+      (
+        answers-still k (length (c .args .block .now)) (k + 1) (g .T·Tray .meaning (c .args .tray .now)) (g .T·Tray .meaning (c .loop-through .tray)) (c .loop-through .inv .frame) (c .pre .1 .0),
+        (c .pre .1 .1 .0, (c .loop-through-test .taken, c .loop-through .kept .scratch ∙ c .pre .1 .1 .1)),
+      ),
+    )
 
 pub loop-through-again : need.loop-through-again
 loop-through-again g c =

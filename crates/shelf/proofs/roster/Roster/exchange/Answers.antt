@@ -60,13 +60,16 @@ add-to-parities-requires g c κs =
     let long : length (c .add .last .work) ≡ length x = omega arith in
     let l = within-work k (length x) (c .args .work .now) (c .pre .0 .room) in
     let frame =
-        written-frame (isOut missing) m m′ m″ j i x (c .hand .ensures .calm)
-        (c .write-served .ensures ∙ ap (λ t. cond (isOut t j) m′ (stored m′ j i x)) (c .missing-out .ensures)) in
+    written-frame (isOut missing) m m′ m″ j i x (c .hand .ensures .calm)
+    (c .write-served .ensures ∙ ap (λ t. cond (isOut t j) m′ (stored m′ j i x)) (c .missing-out .ensures)) in
     let wide : c .width-k .result ≡ k = c .width-k .ensures .value in
-    let heard = heard-still k (length x) (isOut missing) m m″ frame (c .pre .0 .heard) in
-    (ap isWidth wide ∙ c .pre .0 .room .width,
-      (heard-as k (c .width-k .result) (length x) (length (c .add .last .work)) missing (c .missing-out .result) wide long (c .missing-out .ensures) m″ heard,
-        (subst (λ n. i < rows n) (sym wide) (c .pre .0 .row), simp length-take (omega arith))))
+    let heard = heard-still k (length x) (isOut missing) m m″ frame (c .pre .0 .heard) in (
+      ap isWidth wide ∙ c .pre .0 .room .width,
+      (
+        heard-as k (c .width-k .result) (length x) (length (c .add .last .work)) missing (c .missing-out .result) wide long (c .missing-out .ensures) m″ heard,
+        (subst (λ n. i < rows n) (sym wide) (c .pre .0 .row), simp length-take (omega arith)),
+      ),
+    )
 
 pub returns : need.returns
 returns g c =
