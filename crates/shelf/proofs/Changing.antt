@@ -1,5 +1,5 @@
 -- Blocks of a tray that a change is added to.
-use mathlib.Core.Path.{_≡_, refl, sym, ap, ap₂, _∙_, subst}
+use mathlib.Core.Path.{_≡_, refl, sym, ap, ap₂, _∙_}
 use mathlib.Core.Logic.{_≢_}
 use mathlib.Core.Bool.{Bool, true, false, not, cond, _&&_, _||_, true≢false}
 use mathlib.Core.List.{List}
@@ -9,13 +9,13 @@ use native.Mathlib.Numerals.{add-one}
 use lib.Bits.{bitXor}
 use lib.Dec.{eqb}
 use lib.ListN.{getD}
-use borrow.Author.Tests.{eqb-true, eq-true, ne-false}
+use borrow.Author.Tests.{eqb-true, ne-false}
 use Rattle.std.proofs.shelf.Ways.{tells}
 use Rattle.tray.specs.Meaning.{Meaning, tallied, stored}
 use Rattle.code.specs.Numbers.{any}
 use Rattle.code.specs.Code.{Rule, rows, meets}
 use Rattle.code.specs.Lines.{takes, holds}
-use Rattle.code.proofs.Put.{any-none, not-so, one-column}
+use Rattle.code.proofs.Put.{any-none, one-column}
 use Rattle.code.proofs.Listed.{any-same, turned}
 use Rattle.law.specs.Service.{Columns}
 use Rattle.law.specs.Holding.{held, SameFrame}
@@ -23,7 +23,16 @@ use Rattle.shelf.specs.Blocks.{Ready}
 use Rattle.shelf.specs.Reading.{Answers, Heard}
 use Rattle.shelf.specs.Regaining.{BytesAdded}
 use Rattle.shelf.specs.Parities.{Places, AddedAt, only-at, line-by, lines-below, lines-of, in-service}
+use Rattle.shelf.proofs.Limits.{first, second}
 use Rattle.shelf.proofs.Frames.{frame-none, frame-twice, frame-read, frame-written}
+
+and-false : (b : Bool) → b && false ≡ false
+and-false true = refl
+and-false false = refl
+
+and-true : (b : Bool) → b && true ≡ b
+and-true true = refl
+and-true false = refl
 
 clash : {P : Type 0} (b : Bool) → b ≡ true → b ≡ false → P
 clash b t f = absurd (true≢false (sym t ∙ f))
@@ -66,7 +75,7 @@ module _ (size : ℕ) (m : Meaning) (x : List ℕ) where
       record {
         plus = λ d r b e bl.
             ap (λ l. getD l b 0) (now d r ∙ ap (λ s. cond s after (m .block d r)) (flip d r ∙ e)) ∙ changed b bl
-            ∙ ap₂ (λ d r. bitXor (held m b r d) (getD x b 0)) (eqb-true c d (left (eqb c d) (eqb i r) e)) (eqb-true i r (right (eqb c d) (eqb i r) e));
+            ∙ ap₂ (λ d r. bitXor (held m b r d) (getD x b 0)) (eqb-true c d (first (eqb c d) (eqb i r) e)) (eqb-true i r (second (eqb c d) (eqb i r) e));
         rest = λ d r e. now d r ∙ ap (λ s. cond s after (m .block d r)) (flip d r ∙ e);
         frame = frame-written m m′ m″ c i after (frame-read m m m′ c (frame-none m) read) written;
       }
@@ -76,14 +85,6 @@ module _ (size : ℕ) (m : Meaning) (x : List ℕ) where
 
       flip : (d r : ℕ) → eqb d c && eqb r i ≡ eqb c d && eqb i r
       flip d r = grind (arith, tells)
-
-      left : (a b : Bool) → a && b ≡ true → a ≡ true
-      left true b e = refl
-      left false b e = e
-
-      right : (a b : Bool) → a && b ≡ true → b ≡ true
-      right true b e = e
-      right false b e = absurd (true≢false (sym e))
 
 -- a column that answers goes on to answer
 pub answers-still : (k size c : ℕ) (m m′ : Meaning) → SameFrame m m′ → Answers k size m c → Answers k size m′ c
@@ -100,10 +101,6 @@ module _ (k : ℕ) (right : Rule) (i j : ℕ) where
   pub below-none : (c r : ℕ) → lines-below k right i j 0 c r ≡ false
   unfolding any
   below-none c r = and-false (eqb (k + 1) c)
-    where
-      and-false : (b : Bool) → b && false ≡ false
-      and-false true = refl
-      and-false false = refl
 
   pub below-more : (t c r : ℕ) → lines-below k right i j (t + 1) c r ≡ lines-below k right i j t c r || line-by k right i j t c r
   unfolding any
@@ -118,19 +115,10 @@ module _ (k : ℕ) (right : Rule) (i j : ℕ) where
   -- no line is met twice: it meets no two columns in one row
   pub below-apart : (t c r : ℕ) → line-by k right i j t c r ≡ true → lines-below k right i j t c r ≡ false
   below-apart t c r e =
-      off (eqb (k + 1) c) (any-none t (λ s. eqb (meets i s) r && takes right i s j) (λ s l. other s l))
+      ap (λ b. eqb (k + 1) c && b) (any-none t (λ s. eqb (meets i s) r && takes right i s j) other) ∙ and-false (eqb (k + 1) c)
     where
-      off : (a : Bool) {b : Bool} → b ≡ false → a && b ≡ false
-      off true e = e
-      off false e = refl
-
-      inner : (a b d : Bool) → a && (b && d) ≡ true → b ≡ true
-      inner true true d e = refl
-      inner true false d e = e
-      inner false b d e = absurd (true≢false (sym e))
-
       here : meets i t ≡ r
-      here = eqb-true (meets i t) r (inner (eqb (k + 1) c) (eqb (meets i t) r) (takes right i t j) e)
+      here = eqb-true (meets i t) r (first (eqb (meets i t) r) (takes right i t j) (second (eqb (k + 1) c) (eqb (meets i t) r && takes right i t j) e))
 
       other : (s : ℕ) → s < t → eqb (meets i s) r && takes right i s j ≡ false
       other s l =
@@ -145,18 +133,9 @@ module _ (k : ℕ) (right : Rule) (i j : ℕ) where
 
   pub line-taken : (t : ℕ) → takes right i t j ≡ true → (c r : ℕ) → line-by k right i j t c r ≡ only-at (k + 1) (meets i t) c r
   line-taken t e c r = ap (λ b. eqb (k + 1) c && (eqb (meets i t) r && b)) e ∙ ap (λ b. eqb (k + 1) c && b) (and-true (eqb (meets i t) r))
-    where
-      and-true : (b : Bool) → b && true ≡ b
-      and-true true = refl
-      and-true false = refl
 
   pub line-left : (t : ℕ) → takes right i t j ≡ false → (c r : ℕ) → line-by k right i j t c r ≡ false
-  line-left t e c r = ap (λ b. eqb (k + 1) c && (eqb (meets i t) r && b)) e ∙ off (eqb (k + 1) c) (eqb (meets i t) r)
-    where
-      off : (a b : Bool) → a && (b && false) ≡ false
-      off true true = refl
-      off true false = refl
-      off false b = refl
+  line-left t e c r = ap (λ b. eqb (k + 1) c && (eqb (meets i t) r && b)) e ∙ ap (λ b. eqb (k + 1) c && b) (and-false (eqb (meets i t) r)) ∙ and-false (eqb (k + 1) c)
 
 -- ---- the parities in service
 
@@ -166,22 +145,14 @@ module _ (out : Columns) (j : ℕ) (f : ℕ → Bool) (c r : ℕ) where
     where
       go : (b : Bool) → eqb j c ≡ b → not (out c) && (b && f r) ≡ b && f r
       go true e = ap (λ s. not s && f r) (ap out (sym (eqb-true j c e)) ∙ o)
-      go false e = off (not (out c))
-        where
-          off : (b : Bool) → b && false ≡ false
-          off true = refl
-          off false = refl
+      go false e = and-false (not (out c))
 
   pub served-out : out j ≡ true → not (out c) && (eqb j c && f r) ≡ false
   served-out o = go (eqb j c) refl
     where
       go : (b : Bool) → eqb j c ≡ b → not (out c) && (b && f r) ≡ false
       go true e = ap (λ s. not s && f r) (ap out (sym (eqb-true j c e)) ∙ o)
-      go false e = off (not (out c))
-        where
-          off : (b : Bool) → b && false ≡ false
-          off true = refl
-          off false = refl
+      go false e = and-false (not (out c))
 
 -- the line column is not that of the sums
 pub sum-apart : (k : ℕ) (right : Rule) (out : Columns) (i j c r : ℕ) → in-service out (lines-of k right i j) c r ≡ true → in-service out (only-at k i) c r ≡ false

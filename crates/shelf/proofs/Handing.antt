@@ -1,7 +1,7 @@
 -- The data at hand, by the columns that are out.
 use mathlib.Core.Path.{_≡_, refl, sym, ap, _∙_}
-use mathlib.Core.Logic.{_≢_, _⊎_, inl, inr}
-use mathlib.Core.Bool.{Bool, true, false, not, _&&_, _||_, true≢false}
+use mathlib.Core.Logic.{_≢_}
+use mathlib.Core.Bool.{Bool, true, false, _||_, true≢false}
 use mathlib.Core.List.{List}
 use Prim.Native.Nat.{ℕ, _+_, _<_, _≤_}
 use native.Mathlib.Omega.{arith}
@@ -16,8 +16,8 @@ use Rattle.code.specs.Neighbours.{Tournament}
 use Rattle.code.specs.Laws.{lane}
 use Rattle.code.proofs.Limits.{some-rows}
 use Rattle.code.proofs.Linear.{value-data}
-use Rattle.law.specs.Service.{Columns, Sole}
-use Rattle.law.specs.Holding.{Data, Whole, Fits, Calm}
+use Rattle.law.specs.Service.{Sole}
+use Rattle.law.specs.Holding.{Calm}
 use Rattle.law.specs.Hand.{AtHand}
 use Rattle.law.proofs.ForCode.{hand-solved}
 use Rattle.law.proofs.Pinned.{some-blocks}
@@ -25,7 +25,7 @@ use Rattle.shelf.specs.declared.roster.missing.Missing.{Missing}
 use Rattle.shelf.specs.declared.roster.missing.Missing.the-variants.{Nothing, One, Two}
 use Rattle.shelf.specs.Missing.{isOut, isFull, areColumns}
 use Rattle.shelf.specs.Slots.{slot, Room, IsSlot}
-use Rattle.shelf.specs.Reading.{Heard, afterReads}
+use Rattle.shelf.specs.Reading.{afterReads}
 use Rattle.shelf.specs.Recovering.{isSoleData, slotFor, Found}
 use Rattle.shelf.specs.Regaining.{Alone}
 use Rattle.shelf.specs.Hands.{Reach}

@@ -1,7 +1,6 @@
-use mathlib.Core.Path.{_≡_, subst}
+use mathlib.Core.Path.{subst}
 use native.Mathlib.Omega.{arith}
 use lib.ListN.{length, getD}
-use Rattle.shelf.specs.Slots.{SlotAdded}
 use Rattle.shelf.specs.Regaining.{BytesAdded}
 use Rattle.shelf.proofs.OneBlock.{one-slot}
 use Rattle.shelf.proofs.Changing.{added-back}

@@ -1,8 +1,8 @@
-use mathlib.Core.Path.{_≡_, sym, ap, _∙_, subst}
+use mathlib.Core.Path.{_≡_, sym, subst}
 use native.Mathlib.Omega.{arith}
-use Prim.Native.Nat.{_+_, _<_}
+use Prim.Native.Nat.{_+_}
 use lib.ListN.{length}
-use Rattle.code.specs.Code.{rows, meets}
+use Rattle.code.specs.Code.{meets}
 use Rattle.code.specs.Neighbours.{published}
 use Rattle.code.proofs.Limits.{a-width}
 use Rattle.code.proofs.Rows.{meets-lt}

@@ -1,13 +1,13 @@
-use mathlib.Core.Path.{_≡_, sym, ap, _∙_}
-use mathlib.Core.Bool.{true, false, _||_}
+use mathlib.Core.Path.{_≡_, sym, _∙_}
+use mathlib.Core.Bool.{true, false}
 use native.Mathlib.Omega.{arith}
-use Prim.Native.Nat.{ℕ, _+_}
+use Prim.Native.Nat.{_+_}
 use lib.ListN.{length}
 use Rattle.code.specs.Lines.{holds}
 use Rattle.code.specs.Neighbours.{published}
 use Rattle.code.proofs.Limits.{a-width}
 use Rattle.shelf.specs.Missing.{isOut}
-use Rattle.shelf.specs.Parities.{Places, only-at, lines-of, in-service, parities-of}
+use Rattle.shelf.specs.Parities.{Places, only-at, lines-of, in-service}
 use Rattle.shelf.proofs.Changing.{added-none, added-same, added-added, served-in, served-out, sum-apart, heard-answers, heard-still}
 use Rattle.shelf.proofs.parities.add_to_parities.Needs as need
 

@@ -1,9 +1,9 @@
 use mathlib.Core.Path.{_≡_, refl, sym, ap, _∙_, subst}
-use mathlib.Core.Bool.{true, cond}
-use Prim.Native.Nat.{ℕ, _≤_, _+_, _<_}
+use mathlib.Core.Bool.{cond}
+use Prim.Native.Nat.{_≤_, _<_}
 use native.Mathlib.Omega.{arith}
 use borrow.Author.Needs.{needs}
-use lib.ListN.{length, getD, length-take}
+use lib.ListN.{length, length-take}
 use Rattle.tray.specs.Meaning.{stored}
 use Rattle.code.specs.Code.{rows}
 use Rattle.code.specs.Neighbours.{published}
@@ -11,8 +11,6 @@ use Rattle.code.specs.Widths.{isWidth}
 use Rattle.law.specs.Hand.{AtHand}
 use Rattle.shelf.specs.Missing.{isOut}
 use Rattle.shelf.specs.Rosters.{rosterOf, outOf}
-use Rattle.shelf.specs.Reading.{Heard}
-use Rattle.shelf.specs.Parities.{AddedAt, parities-of}
 use Rattle.shelf.specs.Hands.{Reach}
 use Rattle.shelf.proofs.OneBlock.{one-slot}
 use Rattle.shelf.proofs.Handing.{within-work}
