@@ -37,7 +37,7 @@ mod tests {
     }
 
     #[test]
-    fn gets_and_puts() -> Result<(), Fail> {
+    fn gets() -> Result<(), Fail> {
         let mut memory = [0u8; 40];
         let mut other = [0u8; 20];
         let mut work = [0u8; 16];
@@ -61,6 +61,15 @@ mod tests {
             roster.get(&mut tray, 2, 3, &mut [0], &mut [0]),
             Err(told_place(Refusal::WrongBuffer, 2, 3)),
         )?;
+        check_eq(block, [7, 7])
+    }
+
+    #[test]
+    fn puts() -> Result<(), Fail> {
+        let mut memory = [0u8; 40];
+        let mut work = [0u8; 16];
+        let mut tray = Flat::new(5, 4, 2, &mut memory);
+        let roster = Roster::layout(&mut tray, 3, 2)?;
         check_eq(
             roster.put(&mut tray, 2, 3, &[1, 2], &mut [0; 15]),
             Err(told_place(Refusal::ShortWork, 2, 3)),
@@ -71,12 +80,9 @@ mod tests {
             roster.put(&mut tray, 2, 3, &[1, 2], &mut work),
             Err(Fault::silent(1)),
         )?;
-        check_eq(block, [7, 7])?;
         tray.switch(1, true)?;
         tray.switch(4, true)?;
-        roster.put(&mut tray, 2, 3, &[1, 2], &mut work)?;
-        roster.get(&mut tray, 2, 3, &mut block, &mut work)?;
-        check_eq(block, [1, 2])
+        check_eq(roster.put(&mut tray, 2, 3, &[1, 2], &mut work), Ok(()))
     }
 
     #[test]
