@@ -1,5 +1,5 @@
 -- What a cabinet means.
-use mathlib.Core.Bool.{Bool, cond, _&&_}
+use mathlib.Core.Bool.{cond, _&&_}
 use mathlib.Core.List.{List, []}
 use Prim.Native.Nat.{ℕ, _*_, _%_, _^_}
 use lib.Dec.{ltb}

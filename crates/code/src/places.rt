@@ -1,7 +1,8 @@
 // Rows and lines, and the places where they cross the data columns.
 ghost use mathlib.Core.Path.{_≡_};
 ghost use mathlib.Core.Bool.{not};
-ghost use Prim.Native.Nat.{_≤_, _<_};
+ghost use Prim.Native.Nat.{_*_, _^_, _≤_, _<_};
+ghost use lib.Bits.{bitXor};
 ghost use Rattle.code.specs.Numbers.{count};
 ghost use Rattle.code.specs.Code.{dark, meets};
 
@@ -47,23 +48,29 @@ impl Row {
         Line(cross(self.0, column))
     }
 
-    // Whether the place in this row of a column is dark: the row's bit there and the one under it are the same. The bits
-    // that differ from the one under them are the row's Gray code.
+    // The row's Gray code: the bits that differ from the one under them.
+    fn gray(self) -> u64
+        ensures value { λ r. ⌜ r ≡ bitXor (self .0) (self .0 * 2) ⌝ }
+        ensures small { λ r. ⌜ self .0 < 2 ^ 32 ⌝ }
+    {
+        let row = u64::from(self.0);
+        row ^ (row << 1)
+    }
+
+    // Whether the place in this row of a column is dark: the row's bit there and the one under it are the same.
     pub fn is_dark(self, column: u32) -> bool
         ensures { λ r. ⌜ r ≡ dark (self .0) column ⌝ }
     {
         if column > BITS {
             return true;
         }
-        let row = u64::from(self.0);
-        ((row ^ (row << 1)) >> column) & 1 == 0
+        (self.gray() >> column) & 1 == 0
     }
 
-    // At how many columns the row is white: the ones of its Gray code.
+    // At how many columns the row is white.
     pub fn whites(self) -> u32
         ensures { λ r. ⌜ r ≡ count 33 (λ j. not (dark (self .0) j)) ⌝ }
     {
-        let row = u64::from(self.0);
-        (row ^ (row << 1)).count_ones()
+        self.gray().count_ones()
     }
 }

@@ -1,6 +1,6 @@
 -- What a flat tray means: a memory that holds its blocks column after column, row after row within
 -- a column, beside a table with one record for each column.
-use mathlib.Core.Bool.{Bool, true, false, cond, _&&_}
+use mathlib.Core.Bool.{Bool, cond, _&&_}
 use mathlib.Core.List.{List, []}
 use Prim.Native.Nat.{ℕ, _+_, _*_, _%_, _^_}
 use denote.Ref.{now}

@@ -2,7 +2,7 @@
 ghost use mathlib.Core.Path.{_≡_};
 ghost use lib.ListN.{length};
 ghost use Rattle.tray.specs.FlatTrays.{newFlat, written};
-ghost use Rattle.tray.specs.Meaning.{verdict, tallied, stored, switched, asked, ifOk};
+ghost use Rattle.tray.specs.Meaning.{verdict, stored, ifOk};
 use tray::fault::Fault;
 use tray::flat::Flat;
 use tray::flat::FlatTray;

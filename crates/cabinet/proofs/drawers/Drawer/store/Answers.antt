@@ -1,8 +1,6 @@
 use borrow.Author.Needs.{needs}
 use mathlib.Core.Path.{refl}
-use native.Mathlib.Omega.{arith}
 use Rattle.std.proofs.shelf.Parts.{overwrites}
-use Rattle.std.proofs.shelf.Lists.{places, same-lists}
 use Rattle.cabinet.proofs.drawers.Drawer.store.Needs as need
 
 pub returns : need.returns

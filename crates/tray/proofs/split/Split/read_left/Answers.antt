@@ -1,4 +1,4 @@
-use mathlib.Core.Path.{_≡_, sym, _∙_, ap}
+use mathlib.Core.Path.{sym, _∙_, ap}
 use Rattle.tray.specs.Meaning.{ifOk}
 use Rattle.tray.specs.SplitTrays.{splitOf}
 use Rattle.tray.proofs.Halves.{whole-step, verdict-left, tallied-left, block-left}

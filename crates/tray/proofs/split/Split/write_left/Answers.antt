@@ -1,4 +1,4 @@
-use mathlib.Core.Path.{_≡_, sym, _∙_, ap}
+use mathlib.Core.Path.{_∙_}
 use Rattle.tray.specs.SplitTrays.{splitOf}
 use Rattle.tray.proofs.Halves.{whole-step, verdict-left, stored-left}
 use Rattle.tray.proofs.split.Split.write_left.Needs as need
