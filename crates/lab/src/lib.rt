@@ -1,4 +1,6 @@
 // The lab: runs the commands of an exam script on a shelf, and tells of each in one line.
+#![tactic(auto)]
+
 pub mod answer;
 mod begin;
 mod fill;

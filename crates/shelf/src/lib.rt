@@ -1,4 +1,6 @@
 // The butterfly shelf: data blocks on a tray of any make, kept so that any two lost columns come back.
+#![tactic(auto)]
+
 mod blocks;
 mod checks;
 pub mod drill;

@@ -1,5 +1,7 @@
 // Runs an exam script: its bytes come on standard input, the sheet of blocks from the file `sheet.bin` if there is one, and
 // each command prints a line.
+#![tactic(auto)]
+
 use lab::transcript::{MOST_SCRIPT, MOST_SHEET, transcript};
 use std::fs::File;
 use std::io::{Read, Write};

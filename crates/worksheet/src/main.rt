@@ -1,5 +1,7 @@
 // Prints the rules of one width for a workbook page: the right neighbours of each column, the dark map, and the places
 // that each line sums. The width is the first argument, or 3.
+#![tactic(auto)]
+
 mod page;
 
 use anyhow::anyhow;

@@ -15,7 +15,7 @@ loop-through-preserved c =
     let k : ℕ = c.args.k in
     let t : ℕ = c.loop-through.through in
     let n : ℕ = c.args.line.0 in
-    c.in-ok-add-places.ensures
+    c.in_ok-add_places.ensures
     ∙ ap (λ i. vec_items c.loop-through.places ++ in_row i (those k (takes (published k) i t))) (c.meeting.ensures.within (omega arith))
     ∙ ap (λ ps. ps ++ in_row (meets n t) (those k (takes (published k) (meets n t) t))) c.loop-through.invariant
     ∙ append_assoc (vec_items c.args.places.now) (places_below k (published k) n t) (in_row (meets n t) (those k (takes (published k) (meets n t) t)))

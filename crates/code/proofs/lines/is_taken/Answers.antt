@@ -7,10 +7,10 @@ pub returns-then-through-column : goal.returns-then-through-column
 unfolding takes
 returns-then-through-column c = grind (arith, nat_tests)
 
-pub returns-then-is-dark : goal.returns-then-is-dark
+pub returns-then-is_dark : goal.returns-then-is_dark
 unfolding takes
-returns-then-is-dark c = grind (arith, nat_tests)
+returns-then-is_dark c = grind (arith, nat_tests)
 
-pub returns-else-is-dark : goal.returns-else-is-dark
+pub returns-else-is_dark : goal.returns-else-is_dark
 unfolding takes
-returns-else-is-dark c = grind (arith, nat_tests)
+returns-else-is_dark c = grind (arith, nat_tests)

@@ -6,11 +6,11 @@ use Rattle.code.specs.Numbered.{numbers}
 use Rattle.code.proofs.Limits.{a_width, place_width}
 use Rattle.code.proofs.Listed.{holds_listed}
 use Rattle.code.proofs.lines.lines_of.Goals as goal
-use Rattle.code.proofs.lines.lines_of.Goals.{then-is-place+in-ok-add-lines, else-is-place}
+use Rattle.code.proofs.lines.lines_of.Goals.{then-is_place+in_ok-add_lines, else-is_place}
 
-pub add-lines-requires : goal.add-lines-requires
-add-lines-requires c =
-    let w = a_width c.args.k (place_width c.args.k c.args.row.0 c.args.column (sym c.if-is-place.ensures)) in
+pub add_lines-requires : goal.add_lines-requires
+add_lines-requires c =
+    let w = a_width c.args.k (place_width c.args.k c.args.row.0 c.args.column (sym c.if-is_place.ensures)) in
     omega arith
 
 pub returns : goal.returns
@@ -18,15 +18,15 @@ returns c =
     let k = c.args.k in
     let i = c.args.row.0 in
     let j = c.args.column in
-    let listed : numbers (vec_items c.if-is-place.lines) ≡ cond (is_place k i j) (lines_of k (published k) i j) [] =
-    elim c.if-is-place.branch [
-      | then-is-place+in-ok-add-lines w ↦
-          ap (λ v. numbers (vec_items v)) w.lines-is ∙ w.in-ok-add-lines.ensures
+    let listed : numbers (vec_items c.if-is_place.lines) ≡ cond (is_place k i j) (lines_of k (published k) i j) [] =
+    elim c.if-is_place.branch [
+      | then-is_place+in_ok-add_lines w ↦
+          ap (λ v. numbers (vec_items v)) w.lines-is ∙ w.in_ok-add_lines.ensures
           ∙ ap (λ ns. numbers ns ++ lines_of k (published k) i j) c.new-lines.ensures.items
-          ∙ ap (λ b. cond b (lines_of k (published k) i j) []) (sym w.if-is-place.true ∙ c.is_place.ensures)
-      | else-is-place w ↦
+          ∙ ap (λ b. cond b (lines_of k (published k) i j) []) (sym w.if-is_place.true ∙ c.is_place.ensures)
+      | else-is_place w ↦
           ap (λ v. numbers (vec_items v)) w.lines-is ∙ ap numbers c.new-lines.ensures.items
-          ∙ ap (λ b. cond b (lines_of k (published k) i j) []) (sym w.if-is-place.false ∙ c.is_place.ensures)
+          ∙ ap (λ b. cond b (lines_of k (published k) i j) []) (sym w.if-is_place.false ∙ c.is_place.ensures)
     ] in
     record {
       listed = listed;

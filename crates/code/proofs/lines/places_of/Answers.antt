@@ -5,26 +5,26 @@ use Rattle.code.specs.Lines.{places_of, sum_of}
 use Rattle.code.proofs.Limits.{a_width, line_width, law_of_width}
 use Rattle.code.proofs.Listed.{line_sums_places}
 use Rattle.code.proofs.lines.places_of.Goals as goal
-use Rattle.code.proofs.lines.places_of.Goals.{then-is-line+in-ok-add-line, else-is-line}
+use Rattle.code.proofs.lines.places_of.Goals.{then-is_line+in_ok-add_line, else-is_line}
 
-pub add-line-requires : goal.add-line-requires
-add-line-requires c =
-    let w = a_width c.args.k (line_width c.args.k c.args.line.0 (sym c.if-is-line.ensures)) in
+pub add_line-requires : goal.add_line-requires
+add_line-requires c =
+    let w = a_width c.args.k (line_width c.args.k c.args.line.0 (sym c.if-is_line.ensures)) in
     omega arith
 
 pub returns : goal.returns
 returns c =
     let k = c.args.k in
     let n = c.args.line.0 in
-    let listed : vec_items c.if-is-line.places ≡ cond (is_line k n) (places_of k (published k) n) [] =
-    elim c.if-is-line.branch [
-      | then-is-line+in-ok-add-line w ↦
-          ap vec_items w.places-is ∙ w.in-ok-add-line.ensures
+    let listed : vec_items c.if-is_line.places ≡ cond (is_line k n) (places_of k (published k) n) [] =
+    elim c.if-is_line.branch [
+      | then-is_line+in_ok-add_line w ↦
+          ap vec_items w.places-is ∙ w.in_ok-add_line.ensures
           ∙ ap (λ ps. ps ++ places_of k (published k) n) c.new-places.ensures.items
-          ∙ ap (λ b. cond b (places_of k (published k) n) []) (sym w.if-is-line.true ∙ c.is-line.ensures)
-      | else-is-line w ↦
+          ∙ ap (λ b. cond b (places_of k (published k) n) []) (sym w.if-is_line.true ∙ c.is_line.ensures)
+      | else-is_line w ↦
           ap vec_items w.places-is ∙ c.new-places.ensures.items
-          ∙ ap (λ b. cond b (places_of k (published k) n) []) (sym w.if-is-line.false ∙ c.is-line.ensures)
+          ∙ ap (λ b. cond b (places_of k (published k) n) []) (sym w.if-is_line.false ∙ c.is_line.ensures)
     ] in
     record {
       listed = listed;

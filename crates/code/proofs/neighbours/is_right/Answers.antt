@@ -11,11 +11,11 @@ returns-then-column-k c = grind (arith, nat_tests)
 pub returns-then-before-ge1 : goal.returns-then-before-ge1
 unfolding near
 returns-then-before-ge1 c =
-    let e = by_distance c.args.k c.args.column c.args.other c.distance-before-before.result (omega arith) (omega arith) (sym c.distance-before-before.ensures) in
+    let e = by_distance c.args.k c.args.column c.args.other c.distance_before-before.result (omega arith) (omega arith) (sym c.distance_before-before.ensures) in
     grind (arith, nat_tests)
 
 pub returns-else-before-ge1 : goal.returns-else-before-ge1
 unfolding near
 returns-else-before-ge1 c =
-    let e = by_distance c.args.k c.args.column c.args.other c.distance-before-before.result (omega arith) (omega arith) (sym c.distance-before-before.ensures) in
+    let e = by_distance c.args.k c.args.column c.args.other c.distance_before-before.result (omega arith) (omega arith) (sym c.distance_before-before.ensures) in
     grind (arith, nat_tests)

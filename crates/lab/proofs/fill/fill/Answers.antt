@@ -6,6 +6,6 @@ pub returns : goal.returns
 returns g c =
     record {
       value = search rules;
-      done = c.fill-on.ensures (g.T.Tray.meaning c.args.tray.now) (more none c.in-ok-put.ensures.done (g.T.Tray.sized c.put.new.tray));
+      done = c.fill_on.ensures (g.T.Tray.meaning c.args.tray.now) (more none c.in_ok-put.ensures.done (g.T.Tray.sized c.put.new.tray));
       work = tt;
     }

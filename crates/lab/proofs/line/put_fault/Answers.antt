@@ -7,13 +7,13 @@ use Rattle.lab.proofs.line.put_fault.Goals as goal
 pub returns : goal.returns
 returns c =
     let f = c.args.fault in
-    let end = c.put-place.result in
-    let after = c.put-place.new.line in
-    let no = c.put-text-at in
-    let number = c.put-decimal-at in
-    let space = c.put-text-at-2 in
-    let layer = c.put-text-at-3 in
-    let space' = c.put-text-at-4 in
+    let end = c.put_place.result in
+    let after = c.put_place.new.line in
+    let no = c.put_text-at in
+    let number = c.put_decimal-at in
+    let space = c.put_text-at-2 in
+    let layer = c.put_text-at-3 in
+    let space' = c.put_text-at-4 in
     let place-text : List ℕ = place_text f.column f.row in
     let layer-text : List ℕ = layer_text f.layer ++ (codes " " ++ place-text) in
     let number-text : List ℕ = decimal (number_of f.refusal) ++ (codes " " ++ layer-text) in
@@ -21,11 +21,11 @@ returns c =
     put_same no.new.line (decimal c.from.result) (decimal (number_of f.refusal)) number.new.line no.result number.result
     (ap decimal (c.from.ensures ∙ c.number.ensures)) (number.ensures.len, number.ensures.line) in
     let layer-put : Put space.new.line space.result (layer_text f.layer) layer.new.line layer.result =
-    put_same space.new.line c.layer-name.result.now (layer_text f.layer) layer.new.line space.result layer.result
-    c.layer-name.ensures.name (layer.ensures.len, layer.ensures.line) in
+    put_same space.new.line c.layer_name.result.now (layer_text f.layer) layer.new.line space.result layer.result
+    c.layer_name.ensures.name (layer.ensures.len, layer.ensures.line) in
     let from-space' : Put layer.new.line layer.result (codes " " ++ place-text) after end =
     put_both layer.new.line space'.new.line after (codes " ") place-text layer.result space'.result end (omega arith)
-    (space'.ensures.len, space'.ensures.line) (c.put-place.ensures.len, c.put-place.ensures.line) in
+    (space'.ensures.len, space'.ensures.line) (c.put_place.ensures.len, c.put_place.ensures.line) in
     let from-layer : Put space.new.line space.result layer-text after end =
     put_both space.new.line layer.new.line after (layer_text f.layer) (codes " " ++ place-text) space.result layer.result end (omega arith)
     layer-put from-space' in

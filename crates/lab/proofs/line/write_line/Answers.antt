@@ -7,11 +7,11 @@ use Rattle.lab.proofs.line.write_line.Goals as goal
 pub returns : goal.returns
 returns c =
     let was = c.args.line.now in
-    let end = c.put-byte.result in
-    let after = c.put-byte.new.line in
-    let letter = c.put-byte-at in
-    let space = c.put-text-at in
-    let told = c.put-told-at in
+    let end = c.put_byte.result in
+    let after = c.put_byte.new.line in
+    let letter = c.put_byte-at in
+    let space = c.put_text-at in
+    let told = c.put_told-at in
     let letter-text : List ℕ = cond (is_letter c.args.letter) c.args.letter 63 ∷ [] in
     let text_told : List ℕ = told_text c.args.told c.args.block.now in
     let line-text : List ℕ = line_text c.args.letter c.args.told c.args.block.now in
@@ -20,7 +20,7 @@ returns c =
     (ap (λ b. b ∷ []) c.shown.ensures) (letter.ensures.len, letter.ensures.line) in
     let from_told : Put space.new.line space.result (text_told ++ (10 ∷ [])) after end =
     put_both space.new.line told.new.line after text_told (10 ∷ []) space.result told.result end (omega arith)
-    (told.ensures.len, told.ensures.line) (c.put-byte.ensures.len, c.put-byte.ensures.line) in
+    (told.ensures.len, told.ensures.line) (c.put_byte.ensures.len, c.put_byte.ensures.line) in
     let from-space : Put letter.new.line letter.result (codes " " ++ (text_told ++ (10 ∷ []))) after end =
     put_both letter.new.line space.new.line after (codes " ") (text_told ++ (10 ∷ [])) letter.result space.result end (omega arith)
     (space.ensures.len, space.ensures.line) from_told in

@@ -4,8 +4,8 @@ use Rattle.lab.specs.Labs.{standing}
 use Rattle.lab.proofs.Transcripts.{runs_within}
 use Rattle.lab.proofs.transcript.play_on.Goals as goal
 
-pub slice-bounds-extend-from-slice-end : goal.slice-bounds-extend-from-slice-end
-slice-bounds-extend-from-slice-end c =
+pub slice_bounds-extend_from_slice-end : goal.slice_bounds-extend_from_slice-end
+slice_bounds-extend_from_slice-end c =
     let within : c.in-Ok.step.len ≤ length c.run.new.line =
     runs_within c.args.sheet.now (standing c.args.lab.now) c.args.script.now c.args.work.now c.args.line.now c.in-Ok.step.len
     c.in-Ok.step.rest.now c.run.new.work c.run.new.line (standing c.run.new.self) c.in-Ok.ensures.done
@@ -26,5 +26,5 @@ returns c =
         runs = c.in-Ok.ensures.done;
         shown = ap (λ k. take k line) (sub-zero n);
       },
-      c.in-ok-extend-from-slice.ensures.items,
+      c.in_ok-extend_from_slice.ensures.items,
     )

@@ -16,7 +16,7 @@ returns-in-G-len3-up c = read_on c.args.letter 71 3 c.args.operands.now c.args.s
 
 pub returns-in-P-len3-up : goal.returns-in-P-len3-up
 returns-in-P-len3-up c =
-    put_on c.args.letter c.args.operands.now c.args.size _ _ (search rules) (search rules) c.split-at.ensures.front c.split-at.ensures.back
+    put_on c.args.letter c.args.operands.now c.args.size _ _ (search rules) (search rules) c.split_at.ensures.front c.split_at.ensures.back
 
 pub returns-in-Q-len4-up : goal.returns-in-Q-len4-up
 returns-in-Q-len4-up c = read_on c.args.letter 81 4 c.args.operands.now c.args.size _ c.in-Q-len4-up.is-0 refl (search rules)

@@ -7,24 +7,24 @@ use Rattle.shelf.proofs.Adding.{filled_same}
 use Rattle.shelf.proofs.Gathering.{column_none}
 use Rattle.shelf.proofs.gather.begin.Goals as goal
 
-pub returns-then-is-read : goal.returns-then-is-read
+pub returns-then-is_read : goal.returns-then-is_read
 unfolding only
-returns-then-is-read g c =
+returns-then-is_read g c =
     let m = g.T.Tray.meaning c.args.tray.now in
-    let e = c.if-is-read.true in
+    let e = c.if-is_read.true in
     record {
       tray = c.load.ensures.tray ∙ ap (λ b. after_reads m (times c.args.column (cond b (rows c.args.k) 0))) (sym e);
-      work = filled_same c.args.size c.args.work.now c.args.first (rows c.args.k) _ (λ r b. only c.args.is-read (held m b r c.args.column)) _
+      work = filled_same c.args.size c.args.work.now c.args.first (rows c.args.k) _ (λ r b. only c.args.is_read (held m b r c.args.column)) _
           (λ r b. ap (λ p. only p (held m b r c.args.column)) (sym e)) c.load.ensures.work;
     }
 
-pub returns-else-is-read : goal.returns-else-is-read
+pub returns-else-is_read : goal.returns-else-is_read
 unfolding only
-returns-else-is-read g c =
+returns-else-is_read g c =
     let m = g.T.Tray.meaning c.args.tray.now in
-    let e = c.if-is-read.false in
+    let e = c.if-is_read.false in
     record {
       tray = column_none m c.args.column (g.T.Tray.wraps c.args.tray.now) ∙ ap (λ b. after_reads m (times c.args.column (cond b (rows c.args.k) 0))) (sym e);
-      work = filled_same c.args.size c.args.work.now c.args.first (rows c.args.k) _ (λ r b. only c.args.is-read (held m b r c.args.column)) _
+      work = filled_same c.args.size c.args.work.now c.args.first (rows c.args.k) _ (λ r b. only c.args.is_read (held m b r c.args.column)) _
           (λ r b. ap (λ p. only p (held m b r c.args.column)) (sym e)) c.clear.ensures;
     }

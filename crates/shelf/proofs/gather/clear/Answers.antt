@@ -5,10 +5,10 @@ use Rattle.shelf.proofs.gather.clear.Goals as goal
 pub loop-row-init : goal.loop-row-init
 loop-row-init c = filled_none c.args.size c.args.work.now c.args.first (λ _ _. 0)
 
-pub clear-slot-requires : goal.clear-slot-requires
-clear-slot-requires c =
-    let e = rows_are c.args.k _ _ c.requires.0 _ c.rows-of-row-end.ensures in
+pub clear_slot-requires : goal.clear_slot-requires
+clear_slot-requires c =
+    let e = rows_are c.args.k _ _ c.requires.0 _ c.rows_of-row-end.ensures in
     has_slot c.args.k c.args.size c.loop-row.work (room_kept _ _ _ _ c.requires.0 c.loop-row.auto.work) (c.args.first + c.loop-row.row) (omega arith)
 
 pub loop-row-preserved : goal.loop-row-preserved
-loop-row-preserved c = filled_more c.args.size c.args.work.now c.args.first c.loop-row.row (λ _ _. 0) c.loop-row.work _ c.loop-row.invariant c.clear-slot.ensures
+loop-row-preserved c = filled_more c.args.size c.args.work.now c.args.first c.loop-row.row (λ _ _. 0) c.loop-row.work _ c.loop-row.invariant c.clear_slot.ensures

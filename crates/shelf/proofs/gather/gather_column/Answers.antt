@@ -18,7 +18,7 @@ loop-row-preserved g c =
     let j = c.args.column in
     let n = c.loop-row.row in (
       c.fetch.ensures.tray ∙ column_more m _ j n c.loop-row.invariant.0,
-      row_added c.args.k (published c.args.k) (length c.args.block.now) c.args.work.now c.loop-row.work c.add-place.new.work m j n
+      row_added c.args.k (published c.args.k) (length c.args.block.now) c.args.work.now c.loop-row.work c.add_place.new.work m j n
           (length c.fetch.new.block) c.fetch.new.block (omega arith) (c.fetch.ensures.block ∙ ap (λ x. x.block j n) c.loop-row.invariant.0)
-          c.loop-row.invariant.1 c.add-place.ensures,
+          c.loop-row.invariant.1 c.add_place.ensures,
     )

@@ -23,8 +23,8 @@ loop-column-preserved g c =
     let j = c.loop-column.column in
     let out = is_out c.args.out in
     let f : ℕ → ℕ = each_below out (rows k) j in (
-      c.gather-served.ensures.tray ∙ ap (λ x. after_reads x (times j (cond (out j) 0 (rows k)))) c.loop-column.invariant.0
+      c.gather_served.ensures.tray ∙ ap (λ x. after_reads x (times j (cond (out j) 0 (rows k)))) c.loop-column.invariant.0
           ∙ reads_reads m f (times j (cond (out j) 0 (rows k))) ∙ reads_same m _ (each_below out (rows k) (j + 1)) (each_more out (rows k) j),
-      column_added k (published k) (length c.args.block.now) c.args.work.now c.loop-column.work c.gather-served.new.work m _ f out j
-          (length c.loop-column.block) c.loop-column.auto.block c.loop-column.invariant.0 c.loop-column.invariant.1 c.gather-served.ensures.work,
+      column_added k (published k) (length c.args.block.now) c.args.work.now c.loop-column.work c.gather_served.new.work m _ f out j
+          (length c.loop-column.block) c.loop-column.auto.block c.loop-column.invariant.0 c.loop-column.invariant.1 c.gather_served.ensures.work,
     )

@@ -10,9 +10,9 @@ loop-row-init g c =
     let m = g.T.Tray.meaning c.args.tray.now in
     (column_none m c.args.column (g.T.Tray.wraps c.args.tray.now), filled_none c.args.size c.args.work.now c.args.first (λ r b. held m b r c.args.column))
 
-pub fetch-slot-requires : goal.fetch-slot-requires
-fetch-slot-requires g c =
-    let e = rows_are c.args.k _ _ c.requires.0 _ c.rows-of-row-end.ensures in (
+pub fetch_slot-requires : goal.fetch_slot-requires
+fetch_slot-requires g c =
+    let e = rows_are c.args.k _ _ c.requires.0 _ c.rows_of-row-end.ensures in (
       ready_still c.args.k c.args.size _ _ _ c.args.column c.loop-row.row c.loop-row.invariant.0 c.requires.1.0 (omega arith),
       has_slot c.args.k c.args.size c.loop-row.work (room_kept _ _ _ _ c.requires.0 c.loop-row.auto.work) (c.args.first + c.loop-row.row) (omega arith),
     )
@@ -24,8 +24,8 @@ loop-row-preserved g c =
     let n = c.loop-row.row in
     let size = c.args.size in
     let f : ℕ → ℕ → ℕ = λ r b. held m b r j in (
-      c.fetch-slot.ensures.tray ∙ column_more m _ j n c.loop-row.invariant.0,
+      c.fetch_slot.ensures.tray ∙ column_more m _ j n c.loop-row.invariant.0,
       filled_more size c.args.work.now c.args.first n f c.loop-row.work _ c.loop-row.invariant.1
-          (λ t b l. c.fetch-slot.ensures.work t b l
+          (λ t b l. c.fetch_slot.ensures.work t b l
           ∙ ap (λ x. cond (eqb t (c.args.first + n)) (get_or (x.block j n) b 0) (slot size c.loop-row.work t b)) c.loop-row.invariant.0),
     )

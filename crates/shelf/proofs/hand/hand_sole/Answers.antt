@@ -5,13 +5,13 @@ use Rattle.shelf.specs.Missing.{is_out}
 use Rattle.shelf.proofs.Handing.{within_work, is_sole, is_alone}
 use Rattle.shelf.proofs.hand.hand_sole.Goals as goal
 
-pub slice-bounds-regain-block-end : goal.slice-bounds-regain-block-end
-slice-bounds-regain-block-end g c =
+pub slice_bounds-regain_block-end : goal.slice_bounds-regain_block-end
+slice_bounds-regain_block-end g c =
     let l = within_work c.args.k (length c.args.block.now) c.args.work.now c.requires.0.room in
     search rules
 
-pub regain-block-requires : goal.regain-block-requires
-regain-block-requires g c =
+pub regain_block-requires : goal.regain_block-requires
+regain_block-requires g c =
     let size = length c.args.block.now in
     let l = within_work c.args.k size c.args.work.now c.requires.0.room in (
       is_alone c.args.k size c.args.out (g.T.Tray.meaning c.args.tray.now) c.args.column c.args.row.0 c.args.work.now c.requires.0 c.requires.1.0 c.requires.1.1,
@@ -23,7 +23,7 @@ returns g c =
     let k = c.args.k in
     record {
       at_hand =
-          hand_sole k (published k) (length c.args.block.now) (is_out c.args.out) (g.T.Tray.meaning c.args.tray.now) c.args.row.0 c.args.column c.regain-block.new.block
-          (is_sole k c.args.out c.args.column c.requires.1.0 c.requires.1.1) c.regain-block.ensures.block;
-      calm = c.regain-block.ensures.tray;
+          hand_sole k (published k) (length c.args.block.now) (is_out c.args.out) (g.T.Tray.meaning c.args.tray.now) c.args.row.0 c.args.column c.regain_block.new.block
+          (is_sole k c.args.out c.args.column c.requires.1.0 c.requires.1.1) c.regain_block.ensures.block;
+      calm = c.regain_block.ensures.tray;
     }

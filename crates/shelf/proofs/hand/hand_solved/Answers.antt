@@ -5,10 +5,10 @@ use Rattle.shelf.proofs.Adding.{has_slot_for, room_kept}
 use Rattle.shelf.proofs.Handing.{calm_reads, not_sole, solved_hand}
 use Rattle.shelf.proofs.hand.hand_solved.Goals as goal
 
-pub copy-slot-requires : goal.copy-slot-requires
-copy-slot-requires g c =
+pub copy_slot-requires : goal.copy_slot-requires
+copy_slot-requires g c =
     has_slot_for c.args.k (length c.args.block.now) (length c.recover-by.new.block) c.recover-by.new.work
-    (room_kept _ _ c.args.work.now _ c.requires.0.room (omega arith)) (omega arith) c.slot-for.result c.slot-for.ensures.within
+    (room_kept _ _ c.args.work.now _ c.requires.0.room (omega arith)) (omega arith) c.slot_for.result c.slot_for.ensures.within
 
 pub recover-by-requires : goal.recover-by-requires
 recover-by-requires g c = (c.requires.0.room, (c.requires.0.heard, (c.requires.0.columns, not_sole c.args.k c.args.out c.requires.1.1)))
@@ -22,8 +22,8 @@ returns g c =
     record {
       at_hand =
           solved_hand k (published k) (law_of_width k c.requires.0.room.width) size c.args.out m c.args.column c.args.row.0 c.args.work.now c.requires.0
-          c.requires.1.0 c.requires.1.1 c.recover-by.result c.slot-for.result c.recover-by.new.work c.copy-slot.new.block
-          c.recover-by.ensures.work c.slot-for.ensures.value (omega arith)
-          (rw long at c.copy-slot.ensures);
+          c.requires.1.0 c.requires.1.1 c.recover-by.result c.slot_for.result c.recover-by.new.work c.copy_slot.new.block
+          c.recover-by.ensures.work c.slot_for.ensures.value (omega arith)
+          (rw long at c.copy_slot.ensures);
       calm = calm_reads m _ _ c.recover-by.ensures.tray;
     }

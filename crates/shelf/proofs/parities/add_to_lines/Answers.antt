@@ -10,8 +10,8 @@ loop-through-init g c =
     added_none (length c.args.block.now) (g.T.Tray.meaning c.args.tray.now) c.args.block.now (lines_below k (published k) c.args.row.0 c.args.column 0)
     (below_none k (published k) c.args.row.0 c.args.column)
 
-pub add-to-line-requires : goal.add-to-line-requires
-add-to-line-requires g c =
+pub add_to_line-requires : goal.add_to_line-requires
+add_to_line-requires g c =
     let k = c.args.k in (
       c.requires.0,
       (
@@ -29,9 +29,9 @@ loop-through-preserved g c =
     let x = c.args.block.now in
     let m = g.T.Tray.meaning c.args.tray.now in
     let m' = g.T.Tray.meaning c.loop-through.tray in
-    let m'' = g.T.Tray.meaning c.add-to-line.new.tray in
+    let m'' = g.T.Tray.meaning c.add_to_line.new.tray in
     added_same (length x) m x _ (lines_below k (published k) i j (t + 1)) m'' (below_more k (published k) i j t)
-    (added_added (length x) m x (lines_below k (published k) i j t) (line_by k (published k) i j t) m' m'' (below_apart k (published k) i j t) c.loop-through.invariant c.add-to-line.ensures)
+    (added_added (length x) m x (lines_below k (published k) i j t) (line_by k (published k) i j t) m' m'' (below_apart k (published k) i j t) c.loop-through.invariant c.add_to_line.ensures)
 
 pub returns : goal.returns
 returns g c =

@@ -11,8 +11,8 @@ use Rattle.shelf.proofs.Adding.{room_kept}
 use Rattle.shelf.proofs.Refilling.{located_data, located_answers, located_count, refilled}
 use Rattle.shelf.proofs.rebuild.refill.Goals as goal
 
-pub write-column-requires : goal.write-column-requires
-write-column-requires g c =
+pub write_column-requires : goal.write_column-requires
+write_column-requires g c =
     let m = g.T.Tray.meaning c.args.tray.now in
     let m₁ = g.T.Tray.meaning c.locate-found.new.tray in
     let k = c.args.k in
@@ -36,7 +36,7 @@ pub returns : goal.returns
 returns g c =
     let m = g.T.Tray.meaning c.args.tray.now in
     let m₁ = g.T.Tray.meaning c.locate-found.new.tray in
-    let m' = g.T.Tray.meaning c.write-column.new.tray in
+    let m' = g.T.Tray.meaning c.write_column.new.tray in
     let k = c.args.k in
     let size = length c.args.block.now in
     let out = c.args.out in
@@ -49,7 +49,7 @@ returns g c =
     let done =
     refilled k size width out cols m m₁ work j o c.requires.1.0 (g.T.Tray.sized c.args.tray.now)
     (room_kept k size c.args.work.now work c.requires.0 c.locate-found.auto.work) m' found c.locate-found.ensures
-    (subst (λ (n : ℕ). m' ≡ written m₁ j (rows k) (λ i. slot_block n work (slot_of k found j i))) c.locate-found.auto.block c.write-column.ensures) in
+    (subst (λ (n : ℕ). m' ≡ written m₁ j (rows k) (λ i. slot_block n work (slot_of k found j i))) c.locate-found.auto.block c.write_column.ensures) in
     record {
       count = c.reads.ensures ∙ located_count k size width out cols m m₁ work j o found c.locate-found.ensures;
       done = subst (λ (n : ℕ). Rebuilt k (published k) size (is_out out) m j n (removed (is_out out) j) m') (sym c.reads.ensures) done;

@@ -10,9 +10,9 @@ pub loop-row-init : goal.loop-row-init
 loop-row-init g c =
     written_none (g.T.Tray.meaning c.args.tray.now) c.args.column (λ i. slot_block c.args.size c.args.work.now (slot_of c.args.k c.args.found c.args.column i))
 
-pub place-slot-requires : goal.place-slot-requires
-place-slot-requires g c =
-    let e = rows_are c.args.k _ _ c.requires.0 _ c.rows-of-row-end.ensures in (
+pub place_slot-requires : goal.place_slot-requires
+place_slot-requires g c =
+    let e = rows_are c.args.k _ _ c.requires.0 _ c.rows_of-row-end.ensures in (
       ready_still _ _ _ _ _ _ c.loop-row.invariant
           (answers_ready c.args.k c.args.size (g.T.Tray.meaning c.args.tray.now) c.args.column c.requires.1.0 c.loop-row.row (omega arith)),
       has_slot c.args.k c.args.size c.args.work.now c.requires.0 c.slot.result c.slot.ensures.within,
@@ -24,7 +24,7 @@ loop-row-preserved g c =
     let j = c.args.column in
     let n = c.loop-row.row in
     let block : ℕ → List ℕ = λ s. slot_block c.args.size c.args.work.now s in
-    c.place-slot.ensures
+    c.place_slot.ensures
     ∙ ap (λ x. stored x j n (block c.slot.result)) c.loop-row.invariant
     ∙ ap (λ s. stored (written m j n (λ i. block (slot_of c.args.k c.args.found j i))) j n (block s)) c.slot.ensures.value
     ∙ written_more m j (λ i. block (slot_of c.args.k c.args.found j i)) n

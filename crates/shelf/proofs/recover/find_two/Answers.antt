@@ -11,4 +11,4 @@ returns-then-b-k c =
 
 pub returns-then-a-k-2 : goal.returns-then-a-k-2
 returns-then-a-k-2 c =
-    either_way c.args.k (published c.args.k) (length c.args.block.now) c.args.a c.args.b c.args.work.now _ _ c.find-with-parity-then-a-k-2.ensures
+    either_way c.args.k (published c.args.k) (length c.args.block.now) c.args.a c.args.b c.args.work.now _ _ c.find_with_parity-then-a-k-2.ensures

@@ -11,8 +11,8 @@ use Rattle.shelf.specs.Regaining.{taken}
 use Rattle.shelf.proofs.OneBlock.{calm_refl, bytes_none}
 use Rattle.shelf.proofs.regain.add_meeting.Goals as goal
 
-pub add-taken-requires : goal.add-taken-requires
-add-taken-requires g c =
+pub add_taken-requires : goal.add_taken-requires
+add_taken-requires g c =
     let k = c.args.k in
     let t = c.args.through in
     let w = a_width k c.requires.0.width in
@@ -32,9 +32,9 @@ returns-then-through-lost g c =
     let e : c.meeting.result.0 ≡ meets n t = c.meeting.ensures.within (omega arith) in
     let ne : t ≢ j = omega arith in
     record {
-      tray = c.add-taken.ensures.tray;
+      tray = c.add_taken.ensures.tray;
       block = λ b bl.
-          c.add-taken.ensures.block b bl
+          c.add_taken.ensures.block b bl
           ∙ ap (bit_xor (get_or c.args.block.now b 0))
           (ap (λ i. taken k (published k) (held m b) j i t) e ∙ sym (only_true (not (eqb t j)) (taken k (published k) (held m b) j (meets n t) t) (ap not (sym (ne_false t j ne)))));
     }

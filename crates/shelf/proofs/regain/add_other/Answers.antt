@@ -25,8 +25,8 @@ add-requires g c =
     subst (λ s. (c.args.row.0 + 1) * s ≤ length c.args.work.now) e
     (has_slot c.args.k (length c.args.block.now) c.args.work.now c.requires.0 c.args.row.0 (omega arith))
 
-pub add-to-lines-requires : goal.add-to-lines-requires
-add-to-lines-requires g c =
+pub add_to_lines-requires : goal.add_to_lines-requires
+add_to_lines-requires g c =
     (room_still c.args.k (length c.args.block.now) _ c.args.work.now _ (omega arith) (omega arith) c.requires.0, c.requires.1.1.0)
 
 pub returns-then-column-lost : goal.returns-then-column-lost
@@ -44,12 +44,12 @@ returns-then-column-lost g c =
     λ b. ap (λ y. get_or y b 0) c.fetch.ensures.block ∙ sym (only_true (not (eqb t j)) (held m b i t) (ap not (sym (ne_false t j ne)))) in
     record {
       tray = c.fetch.ensures.tray ∙ read_one m t (g.T.Tray.wraps c.args.tray.now) ∙ ap (λ b. after_reads m (times t (cond b 0 1))) (ne_false t j ne);
-      work = subst (λ s. Plus k s was (λ b r. only (eqb r i) (unless m i j t b)) (λ b. lines_but k (published k) i j (spot i t (unless m i j t b))) c.add-to-lines.new.work) e
+      work = subst (λ s. Plus k s was (λ b r. only (eqb r i) (unless m i j t b)) (λ b. lines_but k (published k) i j (spot i t (unless m i j t b))) c.add_to_lines.new.work) e
           (plus_same k (length x) was _ _ _ _ _
           (λ b r _ _. xor_zero_r (only (eqb r i) (get_or x b 0)) ∙ ap (only (eqb r i)) (known b))
           (λ b n _ _. to_lines_but k (published k) i j (law_of_width k c.requires.0.width) t c.requires.1.1.1 x b n ∙ ap (λ y. lines_but k (published k) i j (spot i t y) n) (known b))
-          (plus_plus k (length x) was (λ b r. only (eqb r i) (get_or x b 0)) nothing nothing (to_lines k (published k) i t j x) c.add.new.work c.add-to-lines.new.work
-          (plus_row k (length x) was x c.add.new.work i c.requires.1.1.0 c.add.ensures) c.add-to-lines.ensures));
+          (plus_plus k (length x) was (λ b r. only (eqb r i) (get_or x b 0)) nothing nothing (to_lines k (published k) i t j x) c.add.new.work c.add_to_lines.new.work
+          (plus_row k (length x) was x c.add.new.work i c.requires.1.1.0 c.add.ensures) c.add_to_lines.ensures));
     }
 
 pub returns-else-column-lost : goal.returns-else-column-lost

@@ -11,8 +11,8 @@ loop-column-init g c =
       others_none c.args.k (published c.args.k) (length c.args.block.now) c.args.row.0 c.args.lost m c.args.work.now,
     )
 
-pub add-other-requires : goal.add-other-requires
-add-other-requires g c = (
+pub add_other-requires : goal.add_other-requires
+add_other-requires g c = (
   room_still _ _ _ _ _ c.loop-column.auto.block c.loop-column.auto.work c.requires.0,
   (
     alone_reads _ _ _ _ _ _ (once_below c.args.lost c.loop-column.column) c.loop-column.auto.block c.loop-column.invariant.0 c.requires.1.0,
@@ -26,9 +26,9 @@ loop-column-preserved g c =
     let m' = g.T.Tray.meaning c.loop-column.tray in
     let j = c.args.lost in
     let t = c.loop-column.column in (
-      reads_after m m' _ (once_below j t) _ _ c.loop-column.invariant.0 c.add-other.ensures.tray (once_more j t),
+      reads_after m m' _ (once_below j t) _ _ c.loop-column.invariant.0 c.add_other.ensures.tray (once_more j t),
       others_more c.args.k (published c.args.k) (length c.args.block.now) (length c.loop-column.block) c.args.row.0 j t m m' (once_below j t)
-          c.args.work.now c.loop-column.work c.add-other.new.work c.loop-column.auto.block c.loop-column.invariant.0 c.loop-column.invariant.1 c.add-other.ensures.work,
+          c.args.work.now c.loop-column.work c.add_other.new.work c.loop-column.auto.block c.loop-column.invariant.0 c.loop-column.invariant.1 c.add_other.ensures.work,
     )
 
 pub returns : goal.returns

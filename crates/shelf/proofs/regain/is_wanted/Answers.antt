@@ -12,7 +12,7 @@ returns-then-column-lost c =
     let right = published c.args.k in
     let i = c.args.row.0 in
     let t = c.args.through in
-    ap₂ (λ a b. not (beq a b)) c.is-taken.ensures c.is-taken-then-column-lost.ensures
+    ap₂ (λ a b. not (beq a b)) c.is_taken.ensures c.is_taken-then-column-lost.ensures
     ∙ ap (λ b. not b && not (beq (takes right i t c.args.column) (takes right i t c.args.lost))) (ne_false c.args.column c.args.lost (omega arith))
 
 pub returns-else-column-lost : goal.returns-else-column-lost

@@ -11,11 +11,11 @@ use Rattle.shelf.proofs.Regaining.{may_read, read_one}
 use Rattle.shelf.proofs.Halfway.{line_read, line_passed}
 use Rattle.shelf.proofs.regain.read_if_white.Goals as goal
 
-pub overflow-add-k : goal.overflow-add-k
-overflow-add-k g c = let w = a_width c.args.k c.requires.0.width in search rules
+pub overflow_add-k : goal.overflow_add-k
+overflow_add-k g c = let w = a_width c.args.k c.requires.0.width in search rules
 
-pub fetch-slot-requires : goal.fetch-slot-requires
-fetch-slot-requires g c =
+pub fetch_slot-requires : goal.fetch_slot-requires
+fetch_slot-requires g c =
     let k = c.args.k in
     let j = c.args.lost in
     let w = a_width k c.requires.0.width in
@@ -23,31 +23,31 @@ fetch-slot-requires g c =
     let e : c.line-line.result.0 ≡ meets c.args.row.0 j = c.line-line.ensures.within (omega arith) in
     let l = meets_lt k c.args.row.0 j c.requires.1.1.0 jk in (
       may_read k c.args.size _ j c.requires.1.0 (k + 1) c.line-line.result.0 c.args.size (omega arith) (omega arith) (omega arith) refl,
-      has_slot k c.args.size c.args.work.now c.requires.0 c.line-slot.result (omega arith),
+      has_slot k c.args.size c.args.work.now c.requires.0 c.line_slot.result (omega arith),
     )
 
-pub returns-then-not-is-dark : goal.returns-then-not-is-dark
-returns-then-not-is-dark g c =
+pub returns-then-not-is_dark : goal.returns-then-not-is_dark
+returns-then-not-is_dark g c =
     let m = g.T.Tray.meaning c.args.tray.now in
     let k = c.args.k in
     let j = c.args.lost in
     let n = c.args.row.0 in
     let w = a_width k c.requires.0.width in
     let jk = c.requires.1.0.column in
-    let d = c.if-not-is-dark.ensures in
+    let d = c.if-not-is_dark.ensures in
     let e : c.line-line.result.0 ≡ meets n j = c.line-line.ensures.within (omega arith) in
     record {
-      tray = c.fetch-slot.ensures.tray ∙ read_one m (k + 1) (g.T.Tray.wraps c.args.tray.now) ∙ ap (λ b. after_reads m (times (k + 1) (cond b 0 1))) d;
-      work = line_read k c.args.size j (held m) n c.args.work.now c.fetch-slot.new.work (sym d) c.requires.1.1.1
-          (subst₂ (λ s l. SlotSet c.args.size c.args.work.now s (λ b. held m b l (k + 1)) c.fetch-slot.new.work)
-          (c.line-slot.ensures ∙ ap (λ l. rows k + l) e) e c.fetch-slot.ensures.work);
+      tray = c.fetch_slot.ensures.tray ∙ read_one m (k + 1) (g.T.Tray.wraps c.args.tray.now) ∙ ap (λ b. after_reads m (times (k + 1) (cond b 0 1))) d;
+      work = line_read k c.args.size j (held m) n c.args.work.now c.fetch_slot.new.work (sym d) c.requires.1.1.1
+          (subst₂ (λ s l. SlotSet c.args.size c.args.work.now s (λ b. held m b l (k + 1)) c.fetch_slot.new.work)
+          (c.line_slot.ensures ∙ ap (λ l. rows k + l) e) e c.fetch_slot.ensures.work);
     }
 
-pub returns-else-not-is-dark : goal.returns-else-not-is-dark
-returns-else-not-is-dark g c =
+pub returns-else-not-is_dark : goal.returns-else-not-is_dark
+returns-else-not-is_dark g c =
     let m = g.T.Tray.meaning c.args.tray.now in
     let k = c.args.k in
-    let d = c.if-not-is-dark.ensures in
+    let d = c.if-not-is_dark.ensures in
     record {
       tray = column_none m (k + 1) (g.T.Tray.wraps c.args.tray.now) ∙ ap (λ b. after_reads m (times (k + 1) (cond b 0 1))) d;
       work = line_passed k c.args.size c.args.lost (held m) c.args.row.0 c.args.work.now (sym d) c.requires.1.1.1;

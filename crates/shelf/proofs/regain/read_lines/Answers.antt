@@ -15,12 +15,12 @@ unfolding count
 loop-row-init g c =
     (column_none (g.T.Tray.meaning c.args.tray.now) (c.args.k + 1) (g.T.Tray.wraps c.args.tray.now), λ b i bl il. absurd (omega arith))
 
-pub read-if-white-requires : goal.read-if-white-requires
-read-if-white-requires g c =
+pub read_if_white-requires : goal.read_if_white-requires
+read_if_white-requires g c =
     let k = c.args.k in
     let j = c.args.lost in
     let n = c.loop-row.row in
-    let e = rows_are k _ _ c.requires.0 _ c.rows-of-row-end.ensures in
+    let e = rows_are k _ _ c.requires.0 _ c.rows_of-row-end.ensures in
     let l : n < rows k = omega arith in (
       room_still _ _ _ _ _ refl c.loop-row.auto.work c.requires.0,
       (
@@ -35,14 +35,14 @@ loop-row-preserved g c =
     let k = c.args.k in
     let j = c.args.lost in
     let n = c.loop-row.row in (
-      reads_after m _ _ (times (k + 1) (n - count n (λ i. dark i j))) _ _ c.loop-row.invariant.0 c.read-if-white.ensures.tray (lines_more k j n),
-      subst (λ x. LinesRead k c.args.size j (held x) (n + 1) c.read-if-white.new.work) c.loop-row.invariant.0 c.read-if-white.ensures.work,
+      reads_after m _ _ (times (k + 1) (n - count n (λ i. dark i j))) _ _ c.loop-row.invariant.0 c.read_if_white.ensures.tray (lines_more k j n),
+      subst (λ x. LinesRead k c.args.size j (held x) (n + 1) c.read_if_white.new.work) c.loop-row.invariant.0 c.read_if_white.ensures.work,
     )
 
 pub returns : goal.returns
 returns g c =
     let k = c.args.k in
-    let e = rows_are k _ _ c.requires.0 _ c.rows-of-row-end.ensures in
+    let e = rows_are k _ _ c.requires.0 _ c.rows_of-row-end.ensures in
     let h : c.loop-row.row ≡ rows k = omega arith in
     let i = rw h at c.loop-row.invariant in
     record { tray = i.0; work = i.1 }

@@ -18,9 +18,9 @@ returns g c =
     let size = length c.args.block.now in
     let w = a_width k c.requires.0.width in
     let jk = c.requires.1.column in
-    let e = c.read-lines.ensures.tray in
+    let e = c.read_lines.ensures.tray in
     record {
-      tray = reads_after m _ _ (times (k + 1) (rows k - count (rows k) (λ i. dark i j))) _ _ e c.regain-rows.ensures.tray (half_read k j (omega arith) jk);
-      work = all_found k (published k) size j (held m) jk c.regain-rows.new.work
-          (subst (λ x. Halfway k (published k) size j (held x) (rows k) c.regain-rows.new.work) e c.regain-rows.ensures.work);
+      tray = reads_after m _ _ (times (k + 1) (rows k - count (rows k) (λ i. dark i j))) _ _ e c.regain_rows.ensures.tray (half_read k j (omega arith) jk);
+      work = all_found k (published k) size j (held m) jk c.regain_rows.new.work
+          (subst (λ x. Halfway k (published k) size j (held x) (rows k) c.regain_rows.new.work) e c.regain_rows.ensures.work);
     }

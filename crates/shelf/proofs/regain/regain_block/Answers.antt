@@ -9,8 +9,8 @@ use Rattle.law.specs.Hand.{others, by_row, by_line, regained}
 use Rattle.shelf.specs.Regaining.{taken}
 use Rattle.shelf.proofs.regain.regain_block.Goals as goal
 
-pub regain-by-line-requires : goal.regain-by-line-requires
-regain-by-line-requires g c =
+pub regain_by_line-requires : goal.regain_by_line-requires
+regain_by_line-requires g c =
     let k = c.args.k in
     let j = c.args.column in
     let w = a_width k c.requires.0.width in
@@ -20,24 +20,24 @@ regain-by-line-requires g c =
     let l' : c.line.result.0 < rows k = omega arith in
     (c.requires.0, (c.requires.1.0, l'))
 
-pub returns-then-is-dark : goal.returns-then-is-dark
+pub returns-then-is_dark : goal.returns-then-is_dark
 unfolding regained
-returns-then-is-dark g c =
+returns-then-is_dark g c =
     let m = g.T.Tray.meaning c.args.tray.now in
     let k = c.args.k in
     let i = c.args.row.0 in
     let j = c.args.column in
     record {
-      tray = c.regain-by-row.ensures.tray;
+      tray = c.regain_by_row.ensures.tray;
       block = record {
-        long = c.regain-by-row.ensures.block.long;
-        each = λ b bl. c.regain-by-row.ensures.block.each b bl ∙ ap (λ d. cond d (by_row k (held m b) j i) (by_line k (published k) (held m b) j i)) c.if-is-dark.ensures;
+        long = c.regain_by_row.ensures.block.long;
+        each = λ b bl. c.regain_by_row.ensures.block.each b bl ∙ ap (λ d. cond d (by_row k (held m b) j i) (by_line k (published k) (held m b) j i)) c.if-is_dark.ensures;
       };
     }
 
-pub returns-else-is-dark : goal.returns-else-is-dark
+pub returns-else-is_dark : goal.returns-else-is_dark
 unfolding regained by_line
-returns-else-is-dark g c =
+returns-else-is_dark g c =
     let m = g.T.Tray.meaning c.args.tray.now in
     let k = c.args.k in
     let right = published k in
@@ -47,12 +47,12 @@ returns-else-is-dark g c =
     let jk = c.requires.0.column in
     let e : c.line.result.0 ≡ meets i j = c.line.ensures.within (omega arith) in
     record {
-      tray = c.regain-by-line.ensures.tray;
+      tray = c.regain_by_line.ensures.tray;
       block = record {
-        long = c.regain-by-line.ensures.block.long;
+        long = c.regain_by_line.ensures.block.long;
         each = λ b bl.
-            c.regain-by-line.ensures.block.each b bl
+            c.regain_by_line.ensures.block.each b bl
             ∙ ap (λ n. bit_xor (held m b n (k + 1)) (others k j (λ c'. taken k right (held m b) j (meets n c') c'))) e
-            ∙ ap (λ d. cond d (by_row k (held m b) j i) (by_line k right (held m b) j i)) c.if-is-dark.ensures;
+            ∙ ap (λ d. cond d (by_row k (held m b) j i) (by_line k right (held m b) j i)) c.if-is_dark.ensures;
       };
     }

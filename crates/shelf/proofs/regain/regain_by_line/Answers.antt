@@ -11,8 +11,8 @@ use Rattle.shelf.proofs.Regaining.{may_read, others_next}
 use Rattle.shelf.proofs.OneBlock.{calm_refl, calm_read, calm_then, calm_held, alone_calm, bytes_none, bytes_more, bytes_all, bytes_calm}
 use Rattle.shelf.proofs.regain.regain_by_line.Goals as goal
 
-pub overflow-add-k : goal.overflow-add-k
-overflow-add-k g c = let w = a_width c.args.k c.requires.0.width in search rules
+pub overflow_add-k : goal.overflow_add-k
+overflow_add-k g c = let w = a_width c.args.k c.requires.0.width in search rules
 
 pub fetch-requires : goal.fetch-requires
 fetch-requires g c =
@@ -20,8 +20,8 @@ fetch-requires g c =
     let jk = c.requires.0.column in
     may_read k _ _ c.args.lost c.requires.0 (k + 1) c.args.line.0 _ (omega arith) (omega arith) c.requires.1.1 refl
 
-pub add-meeting-requires : goal.add-meeting-requires
-add-meeting-requires g c =
+pub add_meeting-requires : goal.add_meeting-requires
+add_meeting-requires g c =
     let m = g.T.Tray.meaning c.args.tray.now in
     let m' = g.T.Tray.meaning c.loop-through.tray in
     let k = c.args.k in
@@ -45,11 +45,11 @@ loop-through-preserved g c =
     let t = c.loop-through.through in
     let was = c.fetch.new.block in
     let term : (ℕ → Blocks) → ℕ → ℕ → ℕ = λ h b c'. taken k (published k) (h b) j (meets n c') c' in (
-      calm_then m m' _ c.loop-through.invariant.0 c.add-meeting.ensures.tray,
-      bytes_more (length was) was (λ b. others t j (term (held m) b)) (λ b. only (not (eqb t j)) (term (held m) b t)) (λ b. others (t + 1) j (term (held m) b)) c.loop-through.block c.add-meeting.new.block
+      calm_then m m' _ c.loop-through.invariant.0 c.add_meeting.ensures.tray,
+      bytes_more (length was) was (λ b. others t j (term (held m) b)) (λ b. only (not (eqb t j)) (term (held m) b t)) (λ b. others (t + 1) j (term (held m) b)) c.loop-through.block c.add_meeting.new.block
           (λ b. others_next j t (term (held m) b)) c.loop-through.invariant.1
-          (bytes_calm (λ h b. only (not (eqb t j)) (term h b t)) m m' (length c.loop-through.block) (length was) c.loop-through.block c.add-meeting.new.block c.loop-through.invariant.0
-          c.loop-through.auto.block c.add-meeting.ensures.block),
+          (bytes_calm (λ h b. only (not (eqb t j)) (term h b t)) m m' (length c.loop-through.block) (length was) c.loop-through.block c.add_meeting.new.block c.loop-through.invariant.0
+          c.loop-through.auto.block c.add_meeting.ensures.block),
     )
 
 pub returns : goal.returns

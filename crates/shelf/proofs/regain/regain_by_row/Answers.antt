@@ -13,8 +13,8 @@ fetch-requires g c =
     let jk = c.requires.0.column in
     may_read k _ _ c.args.lost c.requires.0 k c.args.row.0 _ (omega arith) (omega arith) c.requires.1.1 refl
 
-pub add-if-requires : goal.add-if-requires
-add-if-requires g c =
+pub add_if-requires : goal.add_if-requires
+add_if-requires g c =
     let m = g.T.Tray.meaning c.args.tray.now in
     let m' = g.T.Tray.meaning c.loop-column.tray in
     let k = c.args.k in
@@ -37,11 +37,11 @@ loop-column-preserved g c =
     let j = c.args.lost in
     let t = c.loop-column.column in
     let was = c.fetch.new.block in (
-      calm_then m m' _ c.loop-column.invariant.0 c.add-if.ensures.tray,
-      bytes_more (length was) was (λ b. others t j (held m b i)) (λ b. only (not (eqb t j)) (held m b i t)) (λ b. others (t + 1) j (held m b i)) c.loop-column.block c.add-if.new.block
+      calm_then m m' _ c.loop-column.invariant.0 c.add_if.ensures.tray,
+      bytes_more (length was) was (λ b. others t j (held m b i)) (λ b. only (not (eqb t j)) (held m b i t)) (λ b. others (t + 1) j (held m b i)) c.loop-column.block c.add_if.new.block
           (λ b. others_next j t (held m b i)) c.loop-column.invariant.1
-          (bytes_calm (λ h b. only (not (eqb t j)) (h b i t)) m m' (length c.loop-column.block) (length was) c.loop-column.block c.add-if.new.block c.loop-column.invariant.0
-          c.loop-column.auto.block c.add-if.ensures.block),
+          (bytes_calm (λ h b. only (not (eqb t j)) (h b i t)) m m' (length c.loop-column.block) (length was) c.loop-column.block c.add_if.new.block c.loop-column.invariant.0
+          c.loop-column.auto.block c.add_if.ensures.block),
     )
 
 pub returns : goal.returns

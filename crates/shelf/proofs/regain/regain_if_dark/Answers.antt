@@ -6,24 +6,24 @@ use Rattle.shelf.specs.Regaining.{of_rows}
 use Rattle.shelf.proofs.Halfway.{on_dark, on_white, rows_none}
 use Rattle.shelf.proofs.regain.regain_if_dark.Goals as goal
 
-pub returns-then-is-dark : goal.returns-then-is-dark
-returns-then-is-dark g c =
+pub returns-then-is_dark : goal.returns-then-is_dark
+returns-then-is_dark g c =
     let m = g.T.Tray.meaning c.args.tray.now in
     let k = c.args.k in
     let j = c.args.lost in
-    let d = c.if-is-dark.ensures in
+    let d = c.if-is_dark.ensures in
     record {
-      tray = c.regain-row.ensures.tray ∙ ap (λ b. after_reads m (of_rows k j (cond b 1 0))) d;
-      work = on_dark k (published k) (length c.args.block.now) j (held m) c.args.row.0 c.requires.1.0.column c.requires.1.1.0 c.args.work.now c.regain-row.new.work (sym d)
-          c.requires.1.1.1 c.regain-row.ensures.work;
+      tray = c.regain_row.ensures.tray ∙ ap (λ b. after_reads m (of_rows k j (cond b 1 0))) d;
+      work = on_dark k (published k) (length c.args.block.now) j (held m) c.args.row.0 c.requires.1.0.column c.requires.1.1.0 c.args.work.now c.regain_row.new.work (sym d)
+          c.requires.1.1.1 c.regain_row.ensures.work;
     }
 
-pub returns-else-is-dark : goal.returns-else-is-dark
-returns-else-is-dark g c =
+pub returns-else-is_dark : goal.returns-else-is_dark
+returns-else-is_dark g c =
     let m = g.T.Tray.meaning c.args.tray.now in
     let k = c.args.k in
     let j = c.args.lost in
-    let d = c.if-is-dark.ensures in
+    let d = c.if-is_dark.ensures in
     record {
       tray = rows_none k j m (g.T.Tray.wraps c.args.tray.now) ∙ ap (λ b. after_reads m (of_rows k j (cond b 1 0))) d;
       work = on_white k (published k) (length c.args.block.now) j (held m) c.args.row.0 c.requires.1.0.column c.requires.1.1.0 c.args.work.now (sym d) c.requires.1.1.1;

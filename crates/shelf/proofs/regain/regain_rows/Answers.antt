@@ -17,12 +17,12 @@ loop-row-init g c =
       halfway_none c.args.k (published c.args.k) (length c.args.block.now) c.args.lost (held m) c.requires.1.0.column c.args.work.now c.requires.1.1,
     )
 
-pub regain-if-dark-requires : goal.regain-if-dark-requires
-regain-if-dark-requires g c =
+pub regain_if_dark-requires : goal.regain_if_dark-requires
+regain_if_dark-requires g c =
     let k = c.args.k in
     let j = c.args.lost in
     let n = c.loop-row.row in
-    let e = rows_are k _ _ c.requires.0 _ c.rows-of-row-end.ensures in
+    let e = rows_are k _ _ c.requires.0 _ c.rows_of-row-end.ensures in
     let l : n < rows k = omega arith in (
       room_still _ _ _ _ _ c.loop-row.auto.block c.loop-row.auto.work c.requires.0,
       (
@@ -37,14 +37,14 @@ loop-row-preserved g c =
     let k = c.args.k in
     let j = c.args.lost in
     let n = c.loop-row.row in (
-      reads_after m _ _ (of_rows k j (count n (λ i. dark i j))) _ _ c.loop-row.invariant.0 c.regain-if-dark.ensures.tray (rows_more k j n),
-      subst₂ (λ s x. Halfway k (published k) s j (held x) (n + 1) c.regain-if-dark.new.work) c.loop-row.auto.block c.loop-row.invariant.0 c.regain-if-dark.ensures.work,
+      reads_after m _ _ (of_rows k j (count n (λ i. dark i j))) _ _ c.loop-row.invariant.0 c.regain_if_dark.ensures.tray (rows_more k j n),
+      subst₂ (λ s x. Halfway k (published k) s j (held x) (n + 1) c.regain_if_dark.new.work) c.loop-row.auto.block c.loop-row.invariant.0 c.regain_if_dark.ensures.work,
     )
 
 pub returns : goal.returns
 returns g c =
     let k = c.args.k in
-    let e = rows_are k _ _ c.requires.0 _ c.rows-of-row-end.ensures in
+    let e = rows_are k _ _ c.requires.0 _ c.rows_of-row-end.ensures in
     let h : c.loop-row.row ≡ rows k = omega arith in
     let i = rw h at c.loop-row.invariant in
     record { tray = i.0; work = i.1 }

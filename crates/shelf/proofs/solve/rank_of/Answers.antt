@@ -3,21 +3,21 @@ use Rattle.code.specs.Neighbours.{published}
 use Rattle.shelf.proofs.Ranks.{white_parts, rank_is, few_whites}
 use Rattle.shelf.proofs.solve.rank_of.Goals as goal
 
-pub overflow-sub-others : goal.overflow-sub-others
-overflow-sub-others c =
+pub overflow_sub-others : goal.overflow_sub-others
+overflow_sub-others c =
     let parts = white_parts c.args.k (published c.args.k) c.args.p c.args.q c.args.row.0 c.requires.0 c.requires.1.1 c.requires.1.0 in
     omega arith
 
-pub overflow-sub-others-2 : goal.overflow-sub-others-2
-overflow-sub-others-2 c =
+pub overflow_sub-others-2 : goal.overflow_sub-others-2
+overflow_sub-others-2 c =
     let parts = white_parts c.args.k (published c.args.k) c.args.p c.args.q c.args.row.0 c.requires.0 c.requires.1.1 c.requires.1.0 in
     omega arith
 
-pub overflow-mul-result : goal.overflow-mul-result
-overflow-mul-result c = let few = few_whites c.args.row.0 in omega arith
+pub overflow_mul-result : goal.overflow_mul-result
+overflow_mul-result c = let few = few_whites c.args.row.0 in omega arith
 
-pub overflow-add-result : goal.overflow-add-result
-overflow-add-result c = let few = few_whites c.args.row.0 in omega arith
+pub overflow_add-result : goal.overflow_add-result
+overflow_add-result c = let few = few_whites c.args.row.0 in omega arith
 
 pub returns : goal.returns
 returns c =

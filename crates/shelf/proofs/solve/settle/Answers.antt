@@ -7,22 +7,22 @@ use Rattle.shelf.proofs.Adding.{has_slot, has_slot_for}
 use Rattle.shelf.proofs.Spreading.{settled}
 use Rattle.shelf.proofs.solve.settle.Goals as goal
 
-pub copy-slot-requires : goal.copy-slot-requires
-copy-slot-requires c =
+pub copy_slot-requires : goal.copy_slot-requires
+copy_slot-requires c =
     let k = c.args.k in
     let w = a_width k c.requires.0.width in
     let here : c.line.result.0 ≡ meets c.args.row.0 c.args.p = c.line.ensures.within (omega arith) in
     let l = meets_lt k c.args.row.0 c.args.p c.requires.1.0 c.requires.1.1 in
-    has_slot k (length c.args.block.now) c.args.work.now c.requires.0 c.line-slot.result (omega arith)
+    has_slot k (length c.args.block.now) c.args.work.now c.requires.0 c.line_slot.result (omega arith)
 
 pub add-requires : goal.add-requires
 add-requires c =
-    has_slot_for c.args.k (length c.args.block.now) (length c.copy-slot.new.block) c.args.work.now c.requires.0 (omega arith) c.args.row.0 (omega arith)
+    has_slot_for c.args.k (length c.args.block.now) (length c.copy_slot.new.block) c.args.work.now c.requires.0 (omega arith) c.args.row.0 (omega arith)
 
 pub returns : goal.returns
 returns c =
     let k = c.args.k in
     let w = a_width k c.requires.0.width in
-    settled k (published k) (length c.args.block.now) c.args.p c.args.q c.args.row.0 c.args.work.now c.copy-slot.new.block
-    c.add.new.work c.add-to-lines.new.work c.add-to-lines-2.new.work (length c.copy-slot.new.block) c.line-slot.result c.requires.1.0 (omega arith)
-    (c.line-slot.ensures ∙ ap (λ n. rows k + n) (c.line.ensures.within (omega arith))) c.copy-slot.ensures c.add.ensures c.add-to-lines.ensures c.add-to-lines-2.ensures
+    settled k (published k) (length c.args.block.now) c.args.p c.args.q c.args.row.0 c.args.work.now c.copy_slot.new.block
+    c.add.new.work c.add_to_lines.new.work c.add_to_lines-2.new.work (length c.copy_slot.new.block) c.line_slot.result c.requires.1.0 (omega arith)
+    (c.line_slot.ensures ∙ ap (λ n. rows k + n) (c.line.ensures.within (omega arith))) c.copy_slot.ensures c.add.ensures c.add_to_lines.ensures c.add_to_lines-2.ensures

@@ -4,11 +4,11 @@ use Rattle.code.proofs.Limits.{a_width, law_of_width}
 use Rattle.shelf.proofs.Ranks.{first_rank, last_rank, no_right}
 use Rattle.shelf.proofs.solve.solve.Goals as goal
 
-pub overflow-mul-at-end : goal.overflow-mul-at-end
-overflow-mul-at-end c = let w = a_width c.args.k c.requires.0.width in omega arith
+pub overflow_mul-at-end : goal.overflow_mul-at-end
+overflow_mul-at-end c = let w = a_width c.args.k c.requires.0.width in omega arith
 
-pub overflow-add-at-end : goal.overflow-add-at-end
-overflow-add-at-end c = let w = a_width c.args.k c.requires.0.width in omega arith
+pub overflow_add-at-end : goal.overflow_add-at-end
+overflow_add-at-end c = let w = a_width c.args.k c.requires.0.width in omega arith
 
 pub loop-at-init : goal.loop-at-init
 loop-at-init c = λ D old.

@@ -23,5 +23,5 @@ returns c =
     plus_same k (length x) c.args.work.now _ _ _ _ _
     (λ b r _ _. xor_zero_r (only (eqb r i) (get_or x b 0)) ∙ row_of_one k right law i j c.requires.1.0 c.requires.1.1 x b r)
     (λ b n _ nl. lines_of_one k right law i j c.requires.1.0 c.requires.1.1 x b n nl)
-    (plus_plus k (length x) c.args.work.now (λ b r. only (eqb r i) (get_or x b 0)) nothing nothing (to_lines k right i j k x) c.add.new.work c.add-to-lines.new.work
-    (plus_row k (length x) c.args.work.now x c.add.new.work i c.requires.1.0 c.add.ensures) c.add-to-lines.ensures)
+    (plus_plus k (length x) c.args.work.now (λ b r. only (eqb r i) (get_or x b 0)) nothing nothing (to_lines k right i j k x) c.add.new.work c.add_to_lines.new.work
+    (plus_row k (length x) c.args.work.now x c.add.new.work i c.requires.1.0 c.add.ensures) c.add_to_lines.ensures)

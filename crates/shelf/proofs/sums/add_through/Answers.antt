@@ -15,27 +15,27 @@ add-requires c =
     let w = a_width k c.requires.0.width in
     let here : c.line.result.0 ≡ meets c.args.row.0 t = c.line.ensures.within (omega arith) in
     let l = meets_lt k c.args.row.0 t c.requires.1.0 c.requires.1.1 in
-    has_slot k (length c.args.block.now) c.args.work.now c.requires.0 c.line-slot.result (omega arith)
+    has_slot k (length c.args.block.now) c.args.work.now c.requires.0 c.line_slot.result (omega arith)
 
-pub returns-then-is-passed : goal.returns-then-is-passed
-returns-then-is-passed c =
+pub returns-then-is_passed : goal.returns-then-is_passed
+returns-then-is_passed c =
     let k = c.args.k in
     let t = c.args.through in
     let w = a_width k c.requires.0.width in
-    let here : c.line-slot.result ≡ rows k + meets c.args.row.0 t = c.line-slot.ensures ∙ ap (λ n. rows k + n) (c.line.ensures.within (omega arith)) in
+    let here : c.line_slot.result ≡ rows k + meets c.args.row.0 t = c.line_slot.ensures ∙ ap (λ n. rows k + n) (c.line.ensures.within (omega arith)) in
     plus_same k _ _ nothing (λ b n. only (eqb n (meets c.args.row.0 t)) (get_or c.args.block.now b 0)) nothing _ _ (λ _ _ _ _. refl)
-    (λ b n _ _. ap (λ p. only p (get_or c.args.block.now b 0)) (sym (and_true (eqb n (meets c.args.row.0 t))) ∙ ap (λ p. eqb n (meets c.args.row.0 t) && p) c.if-is-passed.ensures))
+    (λ b n _ _. ap (λ p. only p (get_or c.args.block.now b 0)) (sym (and_true (eqb n (meets c.args.row.0 t))) ∙ ap (λ p. eqb n (meets c.args.row.0 t) && p) c.if-is_passed.ensures))
     (plus_line k (length c.args.block.now) c.args.work.now c.args.block.now c.add.new.work (meets c.args.row.0 t) (rw here at c.add.ensures))
   where
     and_true : (b : Bool) → b && true ≡ b
     and_true true = refl
     and_true false = refl
 
-pub returns-else-is-passed : goal.returns-else-is-passed
+pub returns-else-is_passed : goal.returns-else-is_passed
 unfolding only
-returns-else-is-passed c =
+returns-else-is_passed c =
     plus_same c.args.k _ _ nothing nothing nothing _ _ (λ _ _ _ _. refl)
-    (λ b n _ _. ap (λ p. only p (get_or c.args.block.now b 0)) (sym (and_false (eqb n (meets c.args.row.0 c.args.through))) ∙ ap (λ p. eqb n (meets c.args.row.0 c.args.through) && p) c.if-is-passed.ensures))
+    (λ b n _ _. ap (λ p. only p (get_or c.args.block.now b 0)) (sym (and_false (eqb n (meets c.args.row.0 c.args.through))) ∙ ap (λ p. eqb n (meets c.args.row.0 c.args.through) && p) c.if-is_passed.ensures))
     (plus_none c.args.k (length c.args.block.now) c.args.work.now)
   where
     and_false : (b : Bool) → b && false ≡ false

@@ -10,8 +10,8 @@ loop-through-init c =
     plus_same _ _ _ nothing nothing nothing (passed _ _ _ _ _ 0) _ (λ _ _ _ _. refl) (λ b n _ _. sym (passed_none (published c.args.k) c.args.row.0 c.args.column c.args.skip c.args.block.now b n))
     (plus_none c.args.k (length c.args.block.now) c.args.work.now)
 
-pub add-through-requires : goal.add-through-requires
-add-through-requires c = (room_kept _ _ _ _ c.requires.0 c.loop-through.auto.work, (c.requires.1, c.loop-through-test.true))
+pub add_through-requires : goal.add_through-requires
+add_through-requires c = (room_kept _ _ _ _ c.requires.0 c.loop-through.auto.work, (c.requires.1, c.loop-through-test.true))
 
 pub loop-through-preserved : goal.loop-through-preserved
 loop-through-preserved c =
@@ -23,7 +23,7 @@ loop-through-preserved c =
     let x = c.args.block.now in
     let t = c.loop-through.through in
     plus_same k (length x) c.args.work.now _ _ nothing (passed right i j skip x (t + 1)) _ (λ _ _ _ _. refl) (λ b n _ _. sym (passed_next right i j skip x b n t))
-    (plus_plus k (length x) c.args.work.now nothing (passed right i j skip x t) nothing _ c.loop-through.work c.add-through.new.work c.loop-through.invariant c.add-through.ensures)
+    (plus_plus k (length x) c.args.work.now nothing (passed right i j skip x t) nothing _ c.loop-through.work c.add_through.new.work c.loop-through.invariant c.add_through.ensures)
 
 pub returns : goal.returns
 returns c =

@@ -15,9 +15,9 @@ returns g c =
     let size = length c.args.block.now in
     let work = c.gather.new.work in
     record {
-      tray = calm_reads m m' _ (once_each k (is_out Nothing)) c.gather.ensures.tray c.first-misfit.ensures.tray;
+      tray = calm_reads m m' _ (once_each k (is_out Nothing)) c.gather.ensures.tray c.first_misfit.ensures.tray;
       found =
           finding k (published k) size m m' work (sums_of_all k (published k) size m work c.gather.ensures.work)
-          (ap (λ t. t.block) c.gather.ensures.tray) c.first-misfit.result
-          (subst (λ (n : ℕ). Compared k n m' work c.first-misfit.result) c.gather.auto.block c.first-misfit.ensures.found);
+          (ap (λ t. t.block) c.gather.ensures.tray) c.first_misfit.result
+          (subst (λ (n : ℕ). Compared k n m' work c.first_misfit.result) c.gather.auto.block c.first_misfit.ensures.found);
     }

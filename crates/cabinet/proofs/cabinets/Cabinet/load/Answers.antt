@@ -4,19 +4,19 @@ use Rattle.cabinet.proofs.Steps.{block_fits, block_read, drawer_read}
 use Rattle.cabinet.proofs.cabinets.Cabinet.load.Goals as goal
 
 pub load-requires : goal.load-requires
-load-requires c = block_fits c.args.self.now c.args.column c.requires.column c.index-mut.result.now c.index-mut.ensures.value c.args.row _ c.requires.row c.requires.size
+load-requires c = block_fits c.args.self.now c.args.column c.requires.column c.index_mut.result.now c.index_mut.ensures.value c.args.row _ c.requires.row c.requires.size
 
-pub invariant-of-self : goal.invariant-of-self
-invariant-of-self c =
+pub invariant_of-self : goal.invariant_of-self
+invariant_of-self c =
     let t = c.args.self.now in
     let inside : c.args.column < length (vec_items t.drawers) = omega (arith, c.requires.column, t.stocked.0) in
-    (still_stocked (vec_items t.drawers) c.args.column inside c.index-mut.result.now c.index-mut.ensures.value c.load.new.self t.shape t.stocked (ap length c.load.ensures.bytes), tt)
+    record { stocked = still_stocked (vec_items t.drawers) c.args.column inside c.index_mut.result.now c.index_mut.ensures.value c.load.new.self t.shape t.stocked (ap length c.load.ensures.bytes) }
 
 pub returns : goal.returns
 returns c =
     let t = c.args.self.now in
-    let d = c.index-mut.result.now in
+    let d = c.index_mut.result.now in
     record {
-      after = drawer_read t c.args.column c.requires.column d c.index-mut.ensures.value c.load.new.self c.load.ensures.bytes c.load.ensures.reads;
-      bytes = c.load.ensures.buffer ∙ block_read t c.args.column c.requires.column d c.index-mut.ensures.value c.args.row _ c.requires.row c.requires.size;
+      after = drawer_read t c.args.column c.requires.column d c.index_mut.ensures.value c.load.new.self c.load.ensures.bytes c.load.ensures.reads;
+      bytes = c.load.ensures.buffer ∙ block_read t c.args.column c.requires.column d c.index_mut.ensures.value c.args.row _ c.requires.row c.requires.size;
     }

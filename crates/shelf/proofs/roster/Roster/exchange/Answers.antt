@@ -21,8 +21,8 @@ hand-requires g c =
 pub add-requires : goal.add-requires
 add-requires g c = omega arith
 
-pub write-served-requires : goal.write-served-requires
-write-served-requires g c =
+pub write_served-requires : goal.write_served-requires
+write_served-requires g c =
     λ o.
     let k = c.args.self.now.width in
     let out = is_out c.args.self.now.missing in
@@ -34,27 +34,27 @@ write-served-requires g c =
     answers_ready k size m' j c.args.row.0
     (heard_answers k size out m' j heard (omega (arith, c.requires.0.column)) (ap (λ t. is_out t j) (sym c.missing-out.ensures) ∙ o)) c.requires.0.row
 
-pub slice-bounds-add-to-parities-end : goal.slice-bounds-add-to-parities-end
-slice-bounds-add-to-parities-end g c =
+pub slice_bounds-add_to_parities-end : goal.slice_bounds-add_to_parities-end
+slice_bounds-add_to_parities-end g c =
     let l = within_work c.args.self.now.width (length c.args.block.now) c.args.work.now c.requires.0.room in
     let l' : length c.args.block.now ≤ length c.hand.new.work = omega arith in
     search rules
 
-pub add-to-parities-requires : goal.add-to-parities-requires
-add-to-parities-requires g c =
+pub add_to_parities-requires : goal.add_to_parities-requires
+add_to_parities-requires g c =
     let k = c.args.self.now.width in
     let missing = c.args.self.now.missing in
     let x = c.args.block.now in
     let m = g.T.Tray.meaning c.args.tray.now in
     let m' = g.T.Tray.meaning c.hand.new.tray in
-    let m'' = g.T.Tray.meaning c.write-served.new.tray in
+    let m'' = g.T.Tray.meaning c.write_served.new.tray in
     let j = c.args.column in
     let i = c.args.row.0 in
     let long : length c.add.new.work ≡ length x = omega arith in
     let l = within_work k (length x) c.args.work.now c.requires.0.room in
     let frame =
     written_frame (is_out missing) m m' m'' j i x c.hand.ensures.calm
-    (c.write-served.ensures ∙ ap (λ t. cond (is_out t j) m' (stored m' j i x)) c.missing-out.ensures) in
+    (c.write_served.ensures ∙ ap (λ t. cond (is_out t j) m' (stored m' j i x)) c.missing-out.ensures) in
     let wide : c.width-k.result ≡ k = c.width-k.ensures.value in
     let heard = heard_still k (length x) (is_out missing) m m'' frame c.requires.0.heard in (
       ap is_width wide ∙ c.requires.0.room.width,
@@ -71,8 +71,8 @@ returns g c =
     let out = out_of r in
     let m = g.T.Tray.meaning c.args.tray.now in
     let m' = g.T.Tray.meaning c.hand.new.tray in
-    let m'' = g.T.Tray.meaning c.write-served.new.tray in
-    let m''' = g.T.Tray.meaning c.add-to-parities.new.tray in
+    let m'' = g.T.Tray.meaning c.write_served.new.tray in
+    let m''' = g.T.Tray.meaning c.add_to_parities.new.tray in
     let i = c.args.row.0 in
     let j = c.args.column in
     let x = c.args.block.now in
@@ -83,6 +83,6 @@ returns g c =
     exchanged k (published k) (length x) out m m' m'' m''' j i x v change c.requires.0.column c.requires.0.row refl
     (subst (λ n. AtHand k (published k) n out m i j v) as_long c.hand.ensures.at_hand) c.hand.ensures.calm
     (one_slot (length x) v x change c.add.ensures)
-    (c.write-served.ensures ∙ ap (λ t. cond (is_out t j) m' (stored m' j i x)) c.missing-out.ensures)
+    (c.write_served.ensures ∙ ap (λ t. cond (is_out t j) m' (stored m' j i x)) c.missing-out.ensures)
     (added_as k c.width-k.result (length x) (length change) r.missing c.missing-out.result c.width-k.ensures.value long c.missing-out.ensures m'' m''' change i j
-    c.add-to-parities.ensures)
+    c.add_to_parities.ensures)

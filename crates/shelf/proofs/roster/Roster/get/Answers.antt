@@ -8,14 +8,14 @@ use Rattle.shelf.proofs.roster.Roster.get.Goals as goal
 pub hand-requires : goal.hand-requires
 hand-requires g c =
     in_reach (roster_of c.args.self.now) (g.T.Tray.meaning c.args.tray.now) c.args.column c.args.row (length c.args.block.now) c.args.work.now
-    (sym c.check-place.ensures ∙ c.in-ok-check-place.was) c.args.self.now.kept
+    (sym c.check_place.ensures ∙ c.in_ok-check_place.was) c.args.self.now.kept
 
 pub returns : goal.returns
 returns g c =
     let r = roster_of c.args.self.now in
     let m = g.T.Tray.meaning c.args.tray.now in
     let m' = g.T.Tray.meaning c.hand.new.tray in
-    let ok = sym c.check-place.ensures ∙ c.in-ok-check-place.was in
+    let ok = sym c.check_place.ensures ∙ c.in_ok-check_place.was in
     let done =
     got r m c.args.column c.args.row (length c.args.block.now) c.args.work.now ok c.hand.new.block m'
     c.hand.ensures.at_hand c.hand.ensures.calm c.hand.ensures.one_read in
@@ -26,13 +26,13 @@ returns g c =
       carries = get_goes_on r m m' (g.T.Tray.sized c.args.tray.now) (g.T.Tray.sized c.hand.new.tray) c.args.column c.args.row c.args.block.now c.hand.new.block (Ok tt) done;
     }
 
-pub returns-in-err-check-place : goal.returns-in-err-check-place
-returns-in-err-check-place g c =
+pub returns-in_err-check_place : goal.returns-in_err-check_place
+returns-in_err-check_place g c =
     let r = roster_of c.args.self.now in
     let m = g.T.Tray.meaning c.args.tray.now in
     let sized = g.T.Tray.sized c.args.tray.now in
-    let answer = c.from-residual.result in
-    let p = err_from_is_err_and answer c.from-residual.ensures.1 in
+    let answer = c.from_residual.result in
+    let p = err_from_is_err_and answer c.from_residual.ensures.1 in
     let done = get_refused r m c.args.column c.args.row p.0 c.args.block.now answer p.1 in
     record {
       value = search rules;

@@ -10,7 +10,7 @@ exchange-requires g c =
     let r = roster_of c.args.self.now in
     let m = g.T.Tray.meaning c.args.tray.now in
     let n = length c.args.block.now in
-    let ok = sym c.check-place.ensures ∙ c.in-ok-check-place.was in
+    let ok = sym c.check_place.ensures ∙ c.in_ok-check_place.was in
     let l : n ≤ 512 = fits_most r m c.args.column c.args.row n c.args.work.now ok c.args.self.now.kept in
     (in_reach r m c.args.column c.args.row n c.args.work.now ok c.args.self.now.kept, simp length-take (omega arith))
 
@@ -20,7 +20,7 @@ returns g c =
     let m = g.T.Tray.meaning c.args.tray.now in
     let m' = g.T.Tray.meaning c.exchange.new.tray in
     let x = c.args.block.now in
-    let ok = sym c.check-place.ensures ∙ c.in-ok-check-place.was in
+    let ok = sym c.check_place.ensures ∙ c.in_ok-check_place.was in
     let done = put_at r m c.args.column c.args.row (length x) c.args.work.now ok m' x c.exchange.ensures in
     record {
       value = sym ok;
@@ -29,13 +29,13 @@ returns g c =
       carries = put_goes_on r m m' (g.T.Tray.sized c.args.tray.now) (g.T.Tray.sized c.exchange.new.tray) c.args.column c.args.row x (Ok tt) done;
     }
 
-pub returns-in-err-check-place : goal.returns-in-err-check-place
-returns-in-err-check-place g c =
+pub returns-in_err-check_place : goal.returns-in_err-check_place
+returns-in_err-check_place g c =
     let r = roster_of c.args.self.now in
     let m = g.T.Tray.meaning c.args.tray.now in
     let sized = g.T.Tray.sized c.args.tray.now in
-    let answer = c.from-residual.result in
-    let p = err_from_is_err_and answer c.from-residual.ensures.1 in
+    let answer = c.from_residual.result in
+    let p = err_from_is_err_and answer c.from_residual.ensures.1 in
     let done = put_refused r m c.args.column c.args.row p.0 c.args.block.now answer p.1 in
     record {
       value = search rules;

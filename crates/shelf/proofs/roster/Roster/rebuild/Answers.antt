@@ -12,37 +12,37 @@ use Rattle.shelf.proofs.roster.Roster.rebuild.Goals as goal
 pub refill-reads-requires : goal.refill-reads-requires
 refill-reads-requires g c =
     rebuild_ready (roster_of c.args.self.now) c.args.self.now.kept (g.T.Tray.meaning c.args.tray.now) c.args.column c.args.work.now
-    (sym c.check-rebuild.ensures ∙ c.in-ok-check-rebuild.was) c.width.result c.width.ensures.value (length c.block-block.result.now)
+    (sym c.check_rebuild.ensures ∙ c.in_ok-check_rebuild.was) c.width.result c.width.ensures.value (length c.block-block.result.now)
     (c.block-block.ensures ∙ c.size.ensures.value) c.missing.result c.missing.ensures
 
 pub returns : goal.returns
 returns g c =
     let r = roster_of c.args.self.now in
-    let r' = roster_of c.put-back.new.self in
+    let r' = roster_of c.put_back.new.self in
     let m = g.T.Tray.meaning c.args.tray.now in
     let m' = g.T.Tray.meaning c.refill-reads.new.tray in
     let n = c.refill-reads.result in
-    let ok = sym c.check-rebuild.ensures ∙ c.in-ok-check-rebuild.was in
+    let ok = sym c.check_rebuild.ensures ∙ c.in_ok-check_rebuild.was in
     let done =
-    rebuilt r c.args.self.now.kept m c.args.column r' c.put-back.ensures m' n c.width.result c.width.ensures.value
+    rebuilt r c.args.self.now.kept m c.args.column r' c.put_back.ensures m' n c.width.result c.width.ensures.value
     (length c.block-block.result.now) (c.block-block.ensures ∙ c.size.ensures.value) c.missing.result c.missing.ensures c.refill-reads.ensures.done in
     record {
       value = accepted_with ok (c.refill-reads.ensures.count ∙ ap₂ reads_of c.width.ensures.value c.missing.ensures);
-      after = c.put-back.ensures;
+      after = c.put_back.ensures;
       done = done;
       work = tt;
       carries =
           rebuild_goes_on r m m' (g.T.Tray.sized c.args.tray.now) (g.T.Tray.sized c.refill-reads.new.tray) r' c.args.column (Ok n) done;
     }
 
-pub returns-in-err-check-rebuild : goal.returns-in-err-check-rebuild
-returns-in-err-check-rebuild g c =
+pub returns-in_err-check_rebuild : goal.returns-in_err-check_rebuild
+returns-in_err-check_rebuild g c =
     let r = roster_of c.args.self.now in
     let m = g.T.Tray.meaning c.args.tray.now in
     let sized = g.T.Tray.sized c.args.tray.now in
     let work = c.args.work.now in
-    let answer = c.from-residual.result in
-    let p = err_from_is_err_and answer c.from-residual.ensures.1 in
+    let answer = c.from_residual.result in
+    let p = err_from_is_err_and answer c.from_residual.ensures.1 in
     let done = subst (λ a. RebuildsOn r m c.args.column a r m) (sym p.1) (refl, refl) in
     record {
       value = search rules;

@@ -9,15 +9,15 @@ pub returns : goal.returns
 returns g c =
     let r = roster_of c.args.self.now in
     let m = g.T.Tray.meaning c.args.tray.now in
-    let m' = g.T.Tray.meaning c.drilled-get.new.tray in
+    let m' = g.T.Tray.meaning c.drilled_get.new.tray in
     let z = g.T.Tray.sized c.args.tray.now in
-    let z' = g.T.Tray.sized c.drilled-get.new.tray in
+    let z' = g.T.Tray.sized c.drilled_get.new.tray in
     record {
-      value = c.drilled-get.ensures.value;
-      same = c.drilled-get.ensures.same;
-      done = c.drilled-get.ensures.done;
-      work = c.drilled-get.ensures.work;
+      value = c.drilled_get.ensures.value;
+      same = c.drilled_get.ensures.same;
+      done = c.drilled_get.ensures.done;
+      work = c.drilled_get.ensures.work;
       carries =
-          subst (λ (r' : Rostered). CarriesOn r m z (rehearsed r c.args.drilled c.args.column c.args.row c.drilled-get.result) r' m' z') (sym c.drilled-get.ensures.same)
-          (rehearsal_goes_on r m m' z z' c.args.drilled c.args.column c.args.row c.args.block.now c.drilled-get.new.block c.drilled-get.result c.drilled-get.ensures.done);
+          subst (λ (r' : Rostered). CarriesOn r m z (rehearsed r c.args.drilled c.args.column c.args.row c.drilled_get.result) r' m' z') (sym c.drilled_get.ensures.same)
+          (rehearsal_goes_on r m m' z z' c.args.drilled c.args.column c.args.row c.args.block.now c.drilled_get.new.block c.drilled_get.result c.drilled_get.ensures.done);
     }

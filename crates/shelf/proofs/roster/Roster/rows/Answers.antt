@@ -9,5 +9,5 @@ pub returns : goal.returns
 returns c =
     let k = c.args.self.now.width in
     let w = is_width-kept (roster_of c.args.self.now) c.args.self.now.kept in
-    let e : c.rows-of.result ≡ rows k = c.rows-of.ensures ∙ ap (λ t. cond t (rows k) 0) w in
+    let e : c.rows_of.result ≡ rows k = c.rows_of.ensures ∙ ap (λ t. cond t (rows k) 0) w in
     record { value = e; high = subst (λ n. n ≤ 1024) (sym e) (few_rows k w) }

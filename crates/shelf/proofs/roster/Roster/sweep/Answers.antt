@@ -11,7 +11,7 @@ use Rattle.shelf.proofs.roster.Roster.sweep.Goals as goal
 pub compare-requires : goal.compare-requires
 compare-requires g c =
     sweep_ready (roster_of c.args.self.now) (g.T.Tray.meaning c.args.tray.now) c.args.work.now
-    (sym c.check-sweep.ensures ∙ c.in-ok-check-sweep.was) (is_width-kept (roster_of c.args.self.now) c.args.self.now.kept)
+    (sym c.check_sweep.ensures ∙ c.in_ok-check_sweep.was) (is_width-kept (roster_of c.args.self.now) c.args.self.now.kept)
     c.width.result c.width.ensures.value (length c.block.result.now) (c.block.ensures ∙ c.size.ensures.value)
 
 pub returns : goal.returns
@@ -20,7 +20,7 @@ returns g c =
     let m = g.T.Tray.meaning c.args.tray.now in
     let m' = g.T.Tray.meaning c.compare.new.tray in
     let found = c.compare.result in
-    let ok = sym c.check-sweep.ensures ∙ c.in-ok-check-sweep.was in
+    let ok = sym c.check_sweep.ensures ∙ c.in_ok-check_sweep.was in
     let done =
     swept r m (length c.args.work.now) ok m' found c.width.result c.width.ensures.value (length c.block.result.now)
     (c.block.ensures ∙ c.size.ensures.value) c.compare.ensures.tray c.compare.ensures.found in
@@ -31,14 +31,14 @@ returns g c =
       carries = sweep_goes_on r m m' (g.T.Tray.sized c.args.tray.now) (g.T.Tray.sized c.compare.new.tray) (Ok found) done;
     }
 
-pub returns-in-err-check-sweep : goal.returns-in-err-check-sweep
-returns-in-err-check-sweep g c =
+pub returns-in_err-check_sweep : goal.returns-in_err-check_sweep
+returns-in_err-check_sweep g c =
     let r = roster_of c.args.self.now in
     let m = g.T.Tray.meaning c.args.tray.now in
     let sized = g.T.Tray.sized c.args.tray.now in
     let work = c.args.work.now in
-    let answer = c.from-residual.result in
-    let p = err_from_is_err_and answer c.from-residual.ensures.1 in
+    let answer = c.from_residual.result in
+    let p = err_from_is_err_and answer c.from_residual.ensures.1 in
     let done = subst (λ a. SweepsOn r m a m) (sym p.1) refl in
     record {
       value = search rules;

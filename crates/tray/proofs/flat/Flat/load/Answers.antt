@@ -10,4 +10,4 @@ returns c =
     let at = c.start-at.result in
     let n : at + length c.args.buffer.now - at ≡ (flat_of t).size = omega (arith, ready.size) in
     let there = ap₂ (λ k i. take k (drop i t.cells.now)) n c.start-at.ensures.value in
-    c.copy-from-slice.ensures.after ∙ (there ∙ sym (block_read t c.args.column ready.column c.args.row ready.row))
+    c.copy_from_slice.ensures.after ∙ (there ∙ sym (block_read t c.args.column ready.column c.args.row ready.row))

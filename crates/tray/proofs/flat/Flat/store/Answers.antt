@@ -9,7 +9,7 @@ returns c =
     let t = c.args.self.now in
     let block = c.args.block.now in
     let ready = c.requires in
-    let put = put_mid-paste c.start-at.result _ t.cells.now c.copy-from-slice.new.self block (length block) c.copy-from-slice.ensures.after (omega arith) refl in
+    let put = put_mid-paste c.start-at.result _ t.cells.now c.copy_from_slice.new.self block (length block) c.copy_from_slice.ensures.after (omega arith) refl in
     let there = put ∙ ap₂ (λ at n. paste t.cells.now at block n) c.start-at.ensures.value ready.size in
     record {
       after = ap (with_cells t c.args.column ready.column) there ∙ block_written t c.args.column ready.column c.args.row ready.row block ready.size;

@@ -2,5 +2,5 @@ use Rattle.std.proofs.Common.{arith}
 use Rattle.code.proofs.Limits.{a_width}
 use Rattle.shelf.proofs.roster.missing.Missing.pair.Goals as goal
 
-pub overflow-add-result : goal.overflow-add-result
-overflow-add-result c = let w = a_width c.args.k c.requires in omega arith
+pub overflow_add-result : goal.overflow_add-result
+overflow_add-result c = let w = a_width c.args.k c.requires in omega arith
