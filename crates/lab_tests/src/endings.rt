@@ -36,7 +36,7 @@ mod tests {
         script.extend_from_slice(b"L\x03\x00\x11Q\x00\x00\x00\xefQ\x00\x00\x00\xf0")?;
         let sheet = vec![in rt.alloc(); 9u8; 5000]?;
         let told = transcript(rt.alloc(), script.as_slice(), sheet.as_slice())?;
-        assert!(rt; told.as_slice() == b"L ok\nQ ok\nQ no 8 script - -\n");
+        assert!(rt; told.as_slice() == b"L ok\nQ ok\nQ no 8 script - -\n".as_slice());
         let sweeps = vec![in rt.alloc(); b'S'; 20000]?;
         script.truncate(4);
         script.extend_from_slice(sweeps.as_slice())?;
