@@ -109,11 +109,11 @@ mod tests {
         let heap = rt.alloc();
         assert_eq!(rt;
             places_of(heap, 5, Line(0))?.as_slice(),
-            &[(0, 0), (0, 3), (0, 4), (1, 1), (3, 2), (7, 3), (15, 4)]
+            [(0, 0), (0, 3), (0, 4), (1, 1), (3, 2), (7, 3), (15, 4)].as_slice()
         );
         assert_eq!(rt;
             places_of(heap, 5, Line(6))?.as_slice(),
-            &[
+            [
                 (6, 0),
                 (6, 3),
                 (6, 4),
@@ -126,10 +126,11 @@ mod tests {
                 (1, 3),
                 (9, 4),
             ]
+            .as_slice()
         );
         assert_eq!(rt;
             places_of(heap, 7, Line(63))?.as_slice(),
-            &[
+            [
                 (63, 0),
                 (62, 1),
                 (60, 2),
@@ -141,10 +142,11 @@ mod tests {
                 (0, 5),
                 (0, 6),
             ]
+            .as_slice()
         );
         assert_eq!(rt;
             lines_of(heap, 3, Row(0), 0)?.as_slice(),
-            &[Line(0), Line(1)]
+            [Line(0), Line(1)].as_slice()
         );
         assert_eq!(rt; places_of(heap, 4, Line(0))?.len(), 0);
         assert_eq!(rt; places_of(heap, 3, Line(4))?.len(), 0);

@@ -1,5 +1,5 @@
 -- How commands are read: a letter, and its operands behind it.
-use Rattle.std.specs.Prelude.{ℕ, ◌+◌, Bool, cond, List, [], ◌∷◌, length, take, drop, Some, None, Ok, Err, Option, Result, ◌==◌, nat_le, slice_index}
+use Rattle.std.specs.Prelude.{ℕ, ◌+◌, cond, List, [], ◌∷◌, length, take, drop, Some, None, Ok, Err, Option, Result, ◌==◌, nat_le, slice_index}
 use Rattle.std.specs.Borrow.{Bor}
 use Rattle.tray.specs.declared.fault.Refusal.TheVariants as refusal
 use Rattle.tray.specs.declared.fault.Fault.{Fault}
