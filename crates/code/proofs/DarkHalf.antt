@@ -1,9 +1,8 @@
 -- Half of the rows are dark for a column: a step along two lines turns its dark rows into its white ones.
-use Rattle.std.proofs.Common.{◌≡◌, ℕ, zero, suc, ◌+◌, ◌-◌, ◌*◌, ◌/◌, ◌%◌, ◌^◌, ◌<◌, ◌≤◌, Bool, true, false, cond, not, ◌≢◌, sym, refl, ap, ◌∙◌, ap₂, add-zero, add_assoc, add-suc, mod-lt, add_comm, pow-suc, arith, pow_pos}
+use Rattle.std.proofs.Common.{◌≡◌, ℕ, zero, suc, ◌+◌, ◌-◌, ◌*◌, ◌^◌, ◌<◌, ◌≤◌, Bool, true, false, cond, not, ◌≢◌, sym, refl, ap, ◌∙◌, ap₂, add-zero, add_assoc, add-suc, add_comm, arith, pow_pos}
 use native.Mathlib.Decide.{dec_lt}
 use lib.Arith.{lt-one}
 use lib.Bits.{bit_xor, xor_block, xor_assoc, xor_zero_r}
-use lib.Pow.{split}
 use Rattle.code.specs.Code.{rows, dark, meets}
 use Rattle.code.specs.Numbers.{count}
 use Rattle.code.specs.Laws.{DarkHalf}

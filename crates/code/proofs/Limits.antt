@@ -1,7 +1,7 @@
 -- What a width is.
-use Rattle.std.proofs.Common.{◌≡◌, ℕ, ◌-◌, ◌%◌, ◌^◌, ◌<◌, ◌≤◌, Bool, true, false, ◌&&◌, ltb, refl, arith, pow_pos, pow_mono}
+use Rattle.std.proofs.Common.{◌≡◌, ℕ, ◌-◌, ◌%◌, ◌<◌, ◌≤◌, Bool, true, false, ◌&&◌, ltb, refl, arith, pow_pos, pow_mono}
 use Rattle.std.proofs.lemmas.Bool.Decides.{nat_tests}
-use Rattle.code.specs.Code.{Rule, rows}
+use Rattle.code.specs.Code.{rows}
 use Rattle.code.specs.Neighbours.{Tournament, published}
 use Rattle.code.specs.Widths.{is_width, is_line, is_place}
 use Rattle.code.proofs.Published.{odd_widths}

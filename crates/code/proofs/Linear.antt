@@ -1,8 +1,8 @@
 -- The code is linear: the difference of two data has the difference of their values.
-use Rattle.std.proofs.Common.{◌≡◌, ℕ, suc, ◌+◌, ◌<◌, Bool, true, false, cond, eqb, ltb, sym, refl, ap, ◌∙◌, ap₂, arith}
+use Rattle.std.proofs.Common.{◌≡◌, ℕ, ◌+◌, ◌<◌, Bool, true, false, cond, eqb, ltb, sym, refl, ap, ◌∙◌, ap₂, arith}
 use lib.Bits.{bit_xor}
 use borrow.Author.Tests.{lt-true, le-false, eq-true, ne_false}
-use Rattle.code.specs.Numbers.{only, xorsum}
+use Rattle.code.specs.Numbers.{only}
 use Rattle.code.specs.Code.{Blocks, Rule, rows, dark, meets, horizontal, beside, gives, butterfly, value}
 use Rattle.code.proofs.Rows.{meets_lt}
 use Rattle.code.proofs.Xor.{xor_swap, only_xor, sum_same, sum_xor}

@@ -1,10 +1,10 @@
 -- Data X whose values are 0 in the columns that are left is 0.
-use Rattle.std.proofs.Common.{◌≡◌, ℕ, zero, suc, ◌+◌, ◌-◌, ◌<◌, ◌≤◌, Bool, true, false, cond, not, ◌&&◌, eqb, ◌≢◌, sym, refl, ap, ◌∙◌, subst, ap₂, true≢false, arith}
-use native.Mathlib.Decide.{ℕ_discrete, dec_lt}
-use lib.Bits.{bit_xor, xor_comm, xor_zero_r}
+use Rattle.std.proofs.Common.{◌≡◌, ℕ, zero, suc, ◌<◌, ◌≤◌, Bool, true, false, cond, not, ◌&&◌, eqb, ◌≢◌, sym, refl, ap, ◌∙◌, ap₂, true≢false, arith}
+use native.Mathlib.Decide.{ℕ_discrete}
+use lib.Bits.{bit_xor, xor_zero_r}
 use borrow.Author.Tests.{ne_false, eqb-false, not-false}
-use Rattle.code.specs.Numbers.{only, xorsum}
-use Rattle.code.specs.Code.{Blocks, Rule, rows, dark, meets, horizontal, beside, gives, butterfly, value}
+use Rattle.code.specs.Numbers.{only}
+use Rattle.code.specs.Code.{Blocks, Rule, rows, dark, meets, horizontal, beside, gives, butterfly}
 use Rattle.code.specs.Neighbours.{Tournament}
 use Rattle.code.specs.Laws.{light, whites, rank}
 use Rattle.code.proofs.Xor.{xor_zero_eq, xor_eq_zero, only_zero, sum_none, sum_one, sum_two}

@@ -1,10 +1,9 @@
 -- Any two columns can be lost, and half of the others tells one lost data column.
-use Rattle.std.proofs.Common.{◌≡◌, ℕ, suc, ◌+◌, ◌<◌, ◌≤◌, Bool, true, false, not, ◌≢◌, sym, refl, ap, ◌∙◌, arith, ext_get_or}
+use Rattle.std.proofs.Common.{◌≡◌, ℕ, ◌+◌, ◌<◌, Bool, true, false, not, ◌≢◌, sym, refl, ap, ◌∙◌, arith, ext_get_or}
 use native.Mathlib.Decide.{ℕ_discrete, dec_lt}
-use lib.Bits.{bit_xor}
 use Rattle.code.specs.Code.{Blocks, Rule, rows, meets, horizontal, butterfly, value}
 use Rattle.code.specs.Neighbours.{Tournament}
-use Rattle.code.specs.Laws.{AnyTwo, AnyTwoBlocks, lane, Half, AgreeOnHalf, SolveTwo, SolveOne}
+use Rattle.code.specs.Laws.{AnyTwo, AnyTwoBlocks, lane, Half, SolveTwo, SolveOne}
 use Rattle.code.proofs.Xor.{xor_zero_eq, xor_eq_zero}
 use Rattle.code.proofs.Linear.{difference, value_data, value_horizontal, value_butterfly, value_xor, horizontal_xor, butterfly_xor}
 use Rattle.code.proofs.Lost.{by_row, half_none, one_none, two_none, one_step, two_step}

@@ -1,6 +1,6 @@
 -- At an odd width, the published rule makes of two columns exactly one the right neighbour of the other.
-use Rattle.std.proofs.Common.{◌≡◌, ℕ, zero, suc, ◌+◌, ◌-◌, ◌/◌, ◌%◌, ◌<◌, ◌≤◌, Bool, true, false, not, ◌&&◌, ltb, leb, ◌≢◌, sym, refl, ap, ◌∙◌, ap₂, mod-eq_of_lt, arith}
-use native.Mathlib.Nat.{mod_self, add-mod_right}
+use Rattle.std.proofs.Common.{◌≡◌, ℕ, ◌+◌, ◌-◌, ◌/◌, ◌%◌, ◌<◌, ◌≤◌, false, not, ◌&&◌, leb, sym, ap, ◌∙◌, ap₂, mod-eq_of_lt, arith}
+use native.Mathlib.Nat.{add-mod_right}
 use native.Mathlib.Decide.{dec_lt}
 use borrow.Author.Tests.{lt-true}
 use Rattle.std.proofs.lemmas.Bool.Decides.{nat_tests}

@@ -1,16 +1,16 @@
 -- A new block at one place changes the sum of its row, and the lines that hold the place.
-use Rattle.std.proofs.Common.{◌≡◌, ℕ, zero, suc, ◌+◌, ◌-◌, ◌^◌, ◌<◌, ◌≤◌, Bool, true, false, cond, not, ◌&&◌, ◌||◌, eqb, ◌≢◌, sym, refl, ap, ◌∙◌, ap₂, true≢false, arith, pow_pos, eqb-true}
+use Rattle.std.proofs.Common.{◌≡◌, ℕ, zero, suc, ◌-◌, ◌^◌, ◌<◌, Bool, true, false, cond, ◌&&◌, ◌||◌, eqb, ◌≢◌, sym, refl, ap, ◌∙◌, ap₂, true≢false, arith, pow_pos, eqb-true}
 use mathlib.Core.Path.{fun_ext}
-use native.Mathlib.Decide.{ℕ_discrete, dec_lt}
+use native.Mathlib.Decide.{dec_lt}
 use lib.Bits.{bit_xor, xor_assoc, xor_self, xor_zero_r}
 use lib.Pow.{pow-lt}
 use borrow.Author.Tests.{eq-true, ne_false}
 use Rattle.code.specs.Numbers.{only, xorsum, any}
-use Rattle.code.specs.Code.{Blocks, Rule, spot, rows, dark, meets, horizontal, beside, gives, butterfly}
+use Rattle.code.specs.Code.{Blocks, Rule, spot, dark, meets, horizontal, beside, gives, butterfly}
 use Rattle.code.specs.Neighbours.{Tournament}
 use Rattle.code.specs.Lines.{takes, holds}
-use Rattle.code.specs.Laws.{changed, Changes, PutRule}
-use Rattle.code.proofs.Xor.{xor_eq_zero, xor_zero_eq, only_zero, sum_same, sum_one}
+use Rattle.code.specs.Laws.{changed, PutRule}
+use Rattle.code.proofs.Xor.{only_zero, sum_same, sum_one}
 use Rattle.code.proofs.Linear.{difference, horizontal_xor, butterfly_xor}
 
 pub any_none : (k : ℕ) (c : ℕ → Bool) → ((j : ℕ) → j < k → c j ≡ false) → any k c ≡ false

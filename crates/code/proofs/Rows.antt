@@ -1,5 +1,5 @@
 -- How the lines turn dark places into white ones.
-use Rattle.std.proofs.Common.{◌≡◌, ℕ, zero, suc, ◌+◌, ◌-◌, ◌*◌, ◌/◌, ◌%◌, ◌^◌, ◌<◌, ◌≤◌, Bool, true, false, cond, not, eqb, ◌≢◌, ◌⊎◌, sym, refl, ap, ◌∙◌, subst, ap₂, inl, inr, add_assoc, mod-lt, one-add, arith, pow_pos, pow_mono, shr-shr}
+use Rattle.std.proofs.Common.{◌≡◌, ℕ, zero, suc, ◌+◌, ◌-◌, ◌*◌, ◌/◌, ◌%◌, ◌^◌, ◌<◌, ◌≤◌, Bool, true, false, cond, not, eqb, ◌≢◌, sym, refl, ap, ◌∙◌, ap₂, add_assoc, mod-lt, one-add, arith, pow_pos, pow_mono, shr-shr}
 use native.Mathlib.Nat.{div-eq_of_lt}
 use native.Mathlib.Decide.{dec_lt}
 use lib.Count.{ones, ones_step, ones-le}
@@ -8,7 +8,6 @@ use lib.Pow.{ones_lt}
 use Rattle.code.specs.Numbers.{count}
 use Rattle.code.proofs.Count.{count_same}
 use Rattle.code.specs.Code.{rows, bit, under, dark, meets}
-use Rattle.code.proofs.Xor.{xor_swap, xor_eq_zero, xor_zero_eq}
 
 -- ---- bits
 

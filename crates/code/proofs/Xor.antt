@@ -1,5 +1,5 @@
 -- Laws of exclusive or and of its sums.
-use Rattle.std.proofs.Common.{◌≡◌, ℕ, zero, suc, ◌+◌, ◌-◌, ◌<◌, ◌≤◌, Bool, true, false, cond, ◌≢◌, ◌⊎◌, sym, refl, ap, ◌∙◌, subst, ap₂, inl, inr, add-one, arith}
+use Rattle.std.proofs.Common.{◌≡◌, ℕ, zero, suc, ◌+◌, ◌<◌, Bool, true, false, cond, ◌≢◌, sym, refl, ap, ◌∙◌, ap₂, add-one, arith}
 use native.Mathlib.Decide.{ℕ_discrete}
 use lib.Bits.{bit_xor, xor_comm, xor_assoc, xor_self, xor_zero_r}
 use Rattle.code.specs.Numbers.{only, xorsum}

@@ -1,5 +1,5 @@
 -- A shelf on which the commands of a script were obeyed stands at the end of a run, so the law of shelves holds of it.
-use Rattle.std.proofs.Common.{◌≡◌, ℕ, zero, suc, ◌+◌, ◌<◌, true, false, cond, not, ◌&&◌, eqb, ltb, List, [], ◌∷◌, length, replicate, is_ok, Ok, Err, Result, sym, refl, ap, ◌∙◌, subst, arith, MatchResult}
+use Rattle.std.proofs.Common.{◌≡◌, ℕ, ◌+◌, ◌<◌, true, false, cond, not, ◌&&◌, eqb, ltb, List, [], ◌∷◌, length, replicate, is_ok, Ok, Err, Result, sym, refl, ap, ◌∙◌, subst, arith}
 use Rattle.std.proofs.lemmas.Bool.Decides.{nat_tests}
 use Rattle.tray.specs.declared.fault.Fault.{Fault}
 use Rattle.tray.specs.Meaning.{Meaning, Sized, switched}
@@ -17,7 +17,6 @@ use Rattle.shelf.specs.Rehearsals.{if_started}
 use Rattle.shelf.specs.Rebuilding.{reads_of}
 use Rattle.shelf.proofs.Pulling.{pull_kept}
 use Rattle.script.specs.Commands.{Operation, layout, pull, rebuild, sweep, get, put, drill, switch, fill}
-use Rattle.script.specs.Blocks.{block_in}
 use Rattle.lab.specs.declared.answer.Answer.{Answer}
 use Rattle.lab.specs.declared.answer.Answer.TheVariants.{Found}
 use Rattle.lab.specs.Labs.{Held}

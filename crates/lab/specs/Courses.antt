@@ -1,8 +1,7 @@
 -- The law of scripts: what a script shows is what it put, whatever its commands were.
-use Rattle.std.specs.Prelude.{◌≡◌, ℕ, ◌<◌, Bool, true, false, cond, ◌&&◌, List, [], ◌∷◌, replicate, is_ok, None, Ok, Err, Result, ◌==◌}
+use Rattle.std.specs.Prelude.{◌≡◌, ℕ, Bool, true, cond, ◌&&◌, List, [], ◌∷◌, replicate, is_ok, None, Ok, Err, Result, ◌==◌}
 use Rattle.tray.specs.declared.fault.Fault.{Fault}
 use Rattle.tray.specs.Meaning.{Meaning, Sized}
-use Rattle.code.specs.Code.{rows}
 use Rattle.code.specs.Widths.{is_width}
 use Rattle.law.specs.Holding.{Data}
 use Rattle.law.specs.Calls.{Laid}

@@ -1,5 +1,5 @@
 -- What each command answers, and what it leaves.
-use Rattle.std.specs.Prelude.{◌≡◌, ℕ, zero, suc, ◌+◌, not, List, length, replicate, IfErr, Ok, Err, Option, Result, MatchResult, ◌==◌}
+use Rattle.std.specs.Prelude.{◌≡◌, ℕ, ◌+◌, not, List, length, replicate, IfErr, Ok, Err, Option, Result, MatchResult, ◌==◌}
 use Rattle.tray.specs.declared.fault.Refusal.TheVariants as refusal
 use Rattle.tray.specs.declared.fault.Fault.{Fault}
 use Rattle.tray.specs.Refusals.{script_fault}

@@ -1,5 +1,5 @@
 -- The law of shelves, for every rule of right neighbours that has the tournament law.
-use Rattle.std.proofs.Common.{◌≡◌, ℕ, ◌+◌, ◌-◌, ◌^◌, ◌<◌, true, cond, ◌≢◌, List, ◌∷◌, get_or, Some, None, Option, sym, refl, ap, ◌∙◌, arith, ext_get_or}
+use Rattle.std.proofs.Common.{◌≡◌, ℕ, ◌+◌, ◌-◌, ◌^◌, ◌<◌, cond, ◌≢◌, List, ◌∷◌, get_or, Some, None, Option, sym, refl, ap, ◌∙◌, arith, ext_get_or}
 use borrow.Author.Tests.{ne_false}
 use Rattle.tray.specs.Meaning.{Meaning}
 use Rattle.code.specs.Code.{Rule, rows, meets, value}

@@ -1,8 +1,8 @@
 -- What is added to the slots of rows and lines.
-use Rattle.std.proofs.Common.{◌≡◌, ℕ, ◌+◌, ◌-◌, ◌*◌, ◌<◌, ◌≤◌, Bool, true, false, cond, ◌&&◌, eqb, ltb, leb, ◌≢◌, List, length, get_or, sym, refl, ap, ◌∙◌, subst, ap₂, mul-le-mul_right, arith, eqb-true}
+use Rattle.std.proofs.Common.{◌≡◌, ℕ, ◌+◌, ◌-◌, ◌*◌, ◌<◌, ◌≤◌, true, false, cond, ◌&&◌, eqb, ltb, leb, ◌≢◌, List, length, get_or, sym, ap, ◌∙◌, subst, mul-le-mul_right, arith}
 use native.Mathlib.Decide.{ℕ_discrete}
 use lib.Bits.{bit_xor, xor_assoc, xor_zero_r}
-use borrow.Author.Tests.{eq-true, ne_false, eqb-false}
+use borrow.Author.Tests.{eq-true, ne_false}
 use Rattle.std.proofs.lemmas.Bool.Decides.{nat_tests}
 use Rattle.code.specs.Widths.{is_width}
 use Rattle.code.specs.Numbers.{only}

@@ -1,5 +1,5 @@
 -- Blocks of a tray that a change is added to.
-use Rattle.std.proofs.Common.{◌≡◌, ℕ, ◌+◌, ◌<◌, Bool, true, false, cond, not, ◌&&◌, ◌||◌, eqb, ◌≢◌, List, get_or, sym, refl, ap, ◌∙◌, ap₂, true≢false, add-one, arith, eqb-true}
+use Rattle.std.proofs.Common.{◌≡◌, ℕ, ◌+◌, ◌<◌, Bool, true, false, cond, not, ◌&&◌, ◌||◌, eqb, List, get_or, sym, refl, ap, ◌∙◌, ap₂, true≢false, add-one, arith, eqb-true}
 use lib.Bits.{bit_xor}
 use borrow.Author.Tests.{ne_false}
 use Rattle.std.proofs.lemmas.Bool.Decides.{nat_tests}

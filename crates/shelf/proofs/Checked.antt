@@ -9,7 +9,7 @@ use Rattle.shelf.specs.declared.roster.missing.Missing.{Missing}
 use Rattle.shelf.specs.declared.roster.missing.Missing.TheVariants.{Nothing, One, Two}
 use Rattle.shelf.specs.Missing.{is_out, is_empty, removed}
 use Rattle.shelf.specs.Rosters.{Rostered, out_of}
-use Rattle.shelf.specs.Checks.{is_shaped, is_roomy, silent_from, unless_silent, hearing, laying, reaching, rebuilding, sweeping}
+use Rattle.shelf.specs.Checks.{is_shaped, silent_from, unless_silent, hearing, laying, reaching, rebuilding, sweeping}
 use Rattle.shelf.specs.Blocks.{Ready}
 
 -- ---- the lowest silent column

@@ -1,5 +1,5 @@
 -- A drill ends with the roster as it began, and carries runs through it.
-use Rattle.std.proofs.Common.{◌≡◌, ℕ, Bool, true, false, cond, eqb, Ok, Err, Result, sym, refl, ap, ◌∙◌, true≢false, arith}
+use Rattle.std.proofs.Common.{◌≡◌, ℕ, false, cond, eqb, Ok, Err, Result, sym, refl, ap, ◌∙◌, true≢false, arith}
 use borrow.Author.Tests.{eq-true}
 use Rattle.std.proofs.lemmas.Bool.Decides.{nat_tests}
 use Rattle.tray.specs.declared.fault.Fault.{Fault}

@@ -1,12 +1,11 @@
 -- What was gathered, against the data that the columns in service fit; and where the solver leaves the missing columns.
-use Rattle.std.proofs.Common.{◌≡◌, ℕ, ◌+◌, ◌<◌, ◌≤◌, Bool, true, false, cond, not, ◌&&◌, ◌||◌, eqb, ltb, ◌≢◌, ◌⊎◌, List, sym, refl, ap, ◌∙◌, subst, ap₂, inl, inr, true≢false, arith, eqb-true}
-use native.Mathlib.Decide.{ℕ_discrete, dec_lt}
+use Rattle.std.proofs.Common.{◌≡◌, ℕ, ◌+◌, ◌<◌, Bool, true, false, cond, not, ◌&&◌, ◌||◌, eqb, ltb, ◌≢◌, ◌⊎◌, List, sym, refl, ap, ◌∙◌, ap₂, inl, inr, true≢false, arith}
+use native.Mathlib.Decide.{ℕ_discrete}
 use lib.Bits.{bit_xor, xor_comm, xor_assoc, xor_self, xor_zero_r}
-use borrow.Author.Tests.{eq-true, ne_false, lt-true, le-false, eqb-false}
+use borrow.Author.Tests.{eq-true, ne_false, lt-true}
 use Rattle.tray.specs.Meaning.{Meaning}
-use Rattle.code.specs.Numbers.{only, xorsum, any}
+use Rattle.code.specs.Numbers.{only}
 use Rattle.code.specs.Code.{Blocks, Rule, rows, meets, horizontal, butterfly, value}
-use Rattle.code.specs.Neighbours.{Tournament}
 use Rattle.code.specs.Laws.{lane}
 use Rattle.code.proofs.Xor.{only_true, only_false, sum_one, sum_two}
 use Rattle.code.proofs.Rows.{meets_lt}
@@ -15,7 +14,7 @@ use Rattle.law.specs.Service.{Columns}
 use Rattle.law.specs.Holding.{Data, held, Fits}
 use Rattle.shelf.specs.Slots.{slot, row_slot, line_slot}
 use Rattle.shelf.specs.Reading.{served, data_out, parity_read, Gathered}
-use Rattle.shelf.specs.Solving.{from_rows, Spread, unknown, Solving, Pair}
+use Rattle.shelf.specs.Solving.{from_rows, Spread, unknown, Solving}
 use Rattle.shelf.specs.Recovering.{slot_for}
 
 -- the blocks of data in the columns that are out, and in those in service

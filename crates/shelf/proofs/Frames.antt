@@ -1,7 +1,7 @@
 -- Reads and writes leave a tray's shape and flags, and reads its blocks.
-use Rattle.std.proofs.Common.{◌≡◌, ℕ, List, sym, refl, ap, ◌∙◌}
+use Rattle.std.proofs.Common.{◌≡◌, ℕ, List, refl, ap, ◌∙◌}
 use Rattle.tray.specs.Meaning.{Meaning, tallied, stored}
-use Rattle.law.specs.Holding.{SameShape, SameFrame, Calm}
+use Rattle.law.specs.Holding.{SameFrame, Calm}
 use Rattle.shelf.specs.declared.roster.missing.Missing.{Missing}
 use Rattle.shelf.specs.Rosters.{Rostered}
 use Rattle.shelf.proofs.Checked.{Sound}

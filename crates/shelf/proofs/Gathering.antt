@@ -6,14 +6,14 @@ use lib.Bits.{bit_xor, xor_zero_r}
 use borrow.Author.Tests.{eq-true, ne_false, lt-true, le-false, eqb-false}
 use Rattle.std.proofs.lemmas.Bool.Decides.{nat_tests}
 use Rattle.tray.specs.Meaning.{Meaning, Wraps, tallied}
-use Rattle.code.specs.Numbers.{only, xorsum}
-use Rattle.code.specs.Code.{Blocks, Rule, spot, rows, meets, horizontal, butterfly, gives, beside}
-use Rattle.code.proofs.Xor.{sum_none, only_zero}
+use Rattle.code.specs.Numbers.{only}
+use Rattle.code.specs.Code.{Blocks, Rule, spot, rows, meets, horizontal, butterfly, gives}
+use Rattle.code.proofs.Xor.{sum_none}
 use Rattle.code.proofs.Linear.{difference, horizontal_same, butterfly_same, horizontal_xor, butterfly_xor}
 use Rattle.code.proofs.Lost.{beside_none, gives_none}
 use Rattle.law.specs.Service.{Columns}
 use Rattle.law.specs.Holding.{held}
-use Rattle.shelf.specs.Slots.{Filled, Plus, nothing, Summed, one}
+use Rattle.shelf.specs.Slots.{Filled, nothing, Summed, one}
 use Rattle.shelf.specs.Blocks.{Ready}
 use Rattle.shelf.specs.Reading.{Answers, Heard, after_reads, times, each_below, once_each, part, in_service, served, parity_read, is_read, Gathered}
 use Rattle.shelf.proofs.Adding.{plus_none, plus_same, plus_plus, row_filled, line_filled}

@@ -3,7 +3,7 @@ use Rattle.std.proofs.Common.{◌≡◌, ℕ, ◌+◌, ◌<◌, ◌≤◌, Bool,
 use borrow.Author.Tests.{eqb-false, ne_false}
 use Rattle.std.proofs.lemmas.Bool.Decides.{nat_tests}
 use Rattle.tray.specs.Meaning.{Meaning}
-use Rattle.code.specs.Code.{Rule, rows}
+use Rattle.code.specs.Code.{Rule}
 use Rattle.code.specs.Neighbours.{Tournament}
 use Rattle.code.specs.Laws.{lane}
 use Rattle.code.proofs.Limits.{some_rows}

@@ -1,8 +1,8 @@
 -- The lines to which the block of a place goes, column by column, are those that hold it.
-use Rattle.std.proofs.Common.{◌≡◌, ℕ, suc, ◌+◌, ◌-◌, ◌^◌, ◌<◌, ◌≤◌, Bool, true, false, not, ◌&&◌, eqb, ◌≢◌, List, get_or, sym, refl, ap, ◌∙◌, ap₂, arith, pow_pos, eqb-true}
+use Rattle.std.proofs.Common.{◌≡◌, ℕ, suc, ◌+◌, ◌-◌, ◌^◌, ◌<◌, ◌≤◌, Bool, true, false, not, ◌&&◌, eqb, ◌≢◌, List, get_or, sym, refl, ap, ◌∙◌, arith, pow_pos, eqb-true}
 use native.Mathlib.Decide.{ℕ_discrete}
-use lib.Bits.{bit_xor, xor_zero_r, xor_assoc, xor_self, xor_lt}
-use borrow.Author.Tests.{eq-true, ne_false, eqb-false}
+use lib.Bits.{bit_xor, xor_assoc, xor_self, xor_lt}
+use borrow.Author.Tests.{eq-true, ne_false}
 use Rattle.code.specs.Numbers.{only, xorsum, any}
 use Rattle.code.specs.Code.{Rule, rows, meets, horizontal, butterfly}
 use Rattle.code.specs.Neighbours.{Tournament}

@@ -1,5 +1,5 @@
 -- A layout keeps its promise, and begins a run.
-use Rattle.std.proofs.Common.{◌≡◌, ℕ, ◌+◌, ◌<◌, Bool, true, false, cond, ◌&&◌, replicate, None, Ok, Err, Result, sym, refl, ap, ◌∙◌, subst, ap₂, arith}
+use Rattle.std.proofs.Common.{◌≡◌, ℕ, ◌+◌, Bool, true, false, cond, ◌&&◌, replicate, None, Ok, Err, Result, sym, refl, ap, ◌∙◌, subst, ap₂, arith}
 use borrow.Author.Tests.{lt-true}
 use Rattle.tray.specs.declared.fault.Fault.{Fault}
 use Rattle.tray.specs.declared.fault.Refusal.TheVariants as refusal

@@ -1,10 +1,8 @@
 -- Whether one of the data columns is out.
-use Rattle.std.proofs.Common.{◌≡◌, ℕ, zero, suc, ◌<◌, ◌≤◌, Bool, true, false, ◌||◌, eqb, ltb, sym, refl, ap, ◌∙◌, ap₂, arith}
-use native.Mathlib.Decide.{ℕ_discrete}
-use borrow.Author.Tests.{eq-true, ne_false, lt-true, le-false}
+use Rattle.std.proofs.Common.{◌≡◌, ℕ, zero, suc, Bool, true, false, ◌||◌, eqb, ltb, refl, ap, ◌∙◌, ap₂, arith}
+use borrow.Author.Tests.{le-false}
 use Rattle.std.proofs.lemmas.Bool.Decides.{nat_tests}
 use Rattle.code.specs.Numbers.{any}
-use Rattle.code.proofs.Put.{any_none}
 
 pub any_one : (k a : ℕ) → any k (λ c. eqb a c) ≡ ltb a k
 unfolding any

@@ -1,12 +1,12 @@
 -- A pull keeps its promise.
-use Rattle.std.proofs.Common.{◌≡◌, ℕ, ◌+◌, ◌<◌, true, false, Ok, Err, Result, sym, refl, ap, ◌∙◌, arith}
+use Rattle.std.proofs.Common.{◌≡◌, ℕ, false, Ok, Err, Result, sym, refl, ap, ◌∙◌, arith}
 use Rattle.std.proofs.lemmas.Bool.Decides.{nat_tests}
 use Rattle.tray.specs.declared.fault.Fault.{Fault}
 use Rattle.tray.specs.Meaning.{if_ok}
 use Rattle.code.specs.Neighbours.{published}
 use Rattle.law.specs.Calls.{Pulled}
 use Rattle.law.proofs.Promises.{pull_carries}
-use Rattle.shelf.specs.Missing.{is_full, added}
+use Rattle.shelf.specs.Missing.{is_full}
 use Rattle.shelf.specs.Rosters.{Rostered, taken_out, out_of, shelf_on}
 use Rattle.shelf.specs.Checks.{pulling}
 use Rattle.shelf.specs.Promises.{PullsOn, PullCarries}

@@ -1,5 +1,5 @@
 -- The order in which rows are settled.
-use Rattle.std.proofs.Common.{◌≡◌, ℕ, zero, suc, ◌+◌, ◌-◌, ◌*◌, ◌^◌, ◌<◌, ◌≤◌, Bool, true, false, cond, not, ◌&&◌, ◌||◌, eqb, ltb, ◌≢◌, List, sym, refl, ap, ◌∙◌, ap₂, add-zero, add_assoc, add-suc, arith, pow_mono}
+use Rattle.std.proofs.Common.{◌≡◌, ℕ, zero, suc, ◌+◌, ◌-◌, ◌*◌, ◌<◌, ◌≤◌, Bool, true, false, cond, not, ◌&&◌, ◌||◌, eqb, ltb, ◌≢◌, List, sym, refl, ap, ◌∙◌, ap₂, add-zero, add-suc, arith}
 use native.Mathlib.Decide.{ℕ_discrete, dec_lt}
 use borrow.Author.Tests.{eq-true, ne_false, lt-true, le-false}
 use Rattle.std.proofs.lemmas.Bool.Decides.{nat_tests}
@@ -8,7 +8,7 @@ use Rattle.code.specs.Code.{Blocks, Rule, rows, dark}
 use Rattle.code.specs.Neighbours.{Tournament, distance, near, published}
 use Rattle.code.specs.Laws.{light, whites, rank}
 use Rattle.code.specs.Widths.{is_width}
-use Rattle.code.proofs.Count.{count_same, count_le, count_next}
+use Rattle.code.proofs.Count.{count_same, count_le}
 use Rattle.code.proofs.Rows.{dark_above}
 use Rattle.code.proofs.Limits.{a_width}
 use Rattle.shelf.specs.Solving.{Settled, Solving, before, Pair}

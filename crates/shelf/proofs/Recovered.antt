@@ -1,28 +1,26 @@
 -- Where recovered blocks lie, and that they are found in each case of what is missing.
-use Rattle.std.proofs.Common.{◌≡◌, ℕ, ◌+◌, ◌<◌, ◌≤◌, Bool, true, false, cond, not, ◌&&◌, ◌||◌, eqb, ltb, ◌≢◌, ◌⊎◌, List, sym, refl, ap, ◌∙◌, subst, ap₂, inl, inr, true≢false, arith, eqb-true}
+use Rattle.std.proofs.Common.{◌≡◌, ℕ, ◌+◌, ◌<◌, ◌≤◌, Bool, true, false, cond, not, ◌&&◌, ◌||◌, eqb, ltb, ◌≢◌, ◌⊎◌, List, sym, refl, ap, ◌∙◌, subst, ap₂, inl, inr, true≢false, arith}
 use mathlib.Core.Path.{fun_ext}
-use native.Mathlib.Decide.{ℕ_discrete, dec_lt}
+use native.Mathlib.Decide.{ℕ_discrete}
 use lib.Bits.{bit_xor, xor_zero_r}
 use borrow.Author.Tests.{eq-true, ne_false, lt-true, le-false}
-use Rattle.std.proofs.lemmas.Bool.Decides.{nat_tests}
 use Rattle.tray.specs.Meaning.{Meaning}
 use Rattle.code.specs.Numbers.{only}
-use Rattle.code.specs.Code.{Blocks, Rule, rows, meets, horizontal, butterfly, value}
+use Rattle.code.specs.Code.{Blocks, Rule, rows, meets, butterfly, value}
 use Rattle.code.proofs.Put.{any_none, not_so}
 use Rattle.code.proofs.Linear.{difference, value_data, value_horizontal, value_butterfly, horizontal_same, butterfly_same, butterfly_xor}
 use Rattle.code.specs.Widths.{is_width}
 use Rattle.code.specs.Laws.{lane}
 use Rattle.law.specs.Service.{Columns}
-use Rattle.law.specs.Holding.{Data, Fits}
 use Rattle.shelf.specs.declared.roster.missing.Missing.{Missing}
-use Rattle.shelf.specs.declared.roster.missing.Missing.TheVariants.{Nothing, One, Two}
+use Rattle.shelf.specs.declared.roster.missing.Missing.TheVariants.{Two}
 use Rattle.shelf.specs.Missing.{is_out}
-use Rattle.shelf.specs.Slots.{slot, row_slot, line_slot}
+use Rattle.shelf.specs.Slots.{slot, row_slot}
 use Rattle.shelf.specs.Reading.{data_out, parity_read, Gathered}
-use Rattle.shelf.specs.Solving.{from_rows, Spread, Solving, Pair}
+use Rattle.shelf.specs.Solving.{from_rows, Spread, Solving}
 use Rattle.shelf.specs.Recovering.{slot_for, Found, Finds}
 use Rattle.shelf.proofs.Outs.{any_two_of}
-use Rattle.shelf.proofs.Finding.{row_lost, row_kept, line_lost, line_kept, start_two, start_one, solved_at, row_of_one, lost, kept}
+use Rattle.shelf.proofs.Finding.{row_lost, row_kept, line_lost, line_kept, start_two, start_one, solved_at, row_of_one, kept}
 
 pub rows_of_width : (k : ℕ) → is_width k ≡ true → (n : ℕ) → n ≡ cond (is_width k) (rows k) 0 → n ≡ rows k
 rows_of_width k w n e = e ∙ ap (λ b. cond b (rows k) 0) w

@@ -1,15 +1,15 @@
 -- One get inside a drill keeps its promise and carries every run on.
-use Rattle.std.proofs.Common.{◌≡◌, ℕ, List, [], Ok, Err, Result, sym, refl, ap, ◌∙◌, subst, MatchResult}
+use Rattle.std.proofs.Common.{◌≡◌, ℕ, List, [], Ok, Err, Result, refl, MatchResult}
 use Rattle.tray.specs.declared.fault.Fault.{Fault}
-use Rattle.tray.specs.Meaning.{Meaning, Sized, if_ok}
+use Rattle.tray.specs.Meaning.{Meaning, Sized}
 use Rattle.code.specs.Neighbours.{published}
 use Rattle.law.specs.Runs.{drilled}
-use Rattle.law.specs.Promises.{told_start, told_inside, Carries}
+use Rattle.law.specs.Promises.{told_start}
 use Rattle.law.proofs.Promises.{start_carries, inner_get_carries, end_carries}
 use Rattle.shelf.specs.Rosters.{Rostered, taken_out, out_of, shelf_on}
-use Rattle.shelf.specs.Checks.{pulling, reaching}
+use Rattle.shelf.specs.Checks.{pulling}
 use Rattle.shelf.specs.Promises.{GetsOn, CarriesOn}
-use Rattle.shelf.specs.Rehearsals.{if_started, rehearsing, RehearsesOn, gets_made, rehearsed}
+use Rattle.shelf.specs.Rehearsals.{RehearsesOn, gets_made, rehearsed}
 use Rattle.shelf.proofs.Pulling.{pull_kept}
 
 module _ (r : Rostered) (m m' : Meaning) (sized : Sized m) (sized' : Sized m') (d c i : ℕ) (was v : List ℕ) (answer : Result (Unit {0}) Fault) where

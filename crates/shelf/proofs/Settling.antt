@@ -1,9 +1,9 @@
 -- One step of the solver: a row of which all rows of lower rank are settled is settled.
-use Rattle.std.proofs.Common.{◌≡◌, ℕ, ◌+◌, ◌<◌, ◌≤◌, Bool, true, false, cond, not, ◌&&◌, ◌||◌, eqb, ltb, ◌≢◌, List, sym, refl, ap, ◌∙◌, subst, ap₂, true≢false, arith, eqb-true}
+use Rattle.std.proofs.Common.{◌≡◌, ℕ, ◌<◌, Bool, true, false, cond, not, ◌&&◌, ◌||◌, eqb, ◌≢◌, List, sym, refl, ap, ◌∙◌, subst, ap₂, true≢false, arith, eqb-true}
 use native.Mathlib.Decide.{ℕ_discrete, dec_lt}
-use lib.Bits.{bit_xor, xor_assoc, xor_self, xor_zero_r}
-use borrow.Author.Tests.{eq-true, ne_false, eqb-false}
-use Rattle.code.specs.Numbers.{only, xorsum, any}
+use lib.Bits.{bit_xor, xor_assoc, xor_zero_r}
+use borrow.Author.Tests.{eq-true, ne_false}
+use Rattle.code.specs.Numbers.{only}
 use Rattle.code.specs.Code.{Blocks, Rule, spot, rows, dark, meets, horizontal, butterfly, value}
 use Rattle.code.specs.Neighbours.{Tournament}
 use Rattle.code.specs.Lines.{takes, holds}

@@ -1,9 +1,9 @@
 -- Blocks that stand in slots are added to the lines that hold their places.
-use Rattle.std.proofs.Common.{◌≡◌, ℕ, ◌+◌, ◌<◌, ◌≤◌, Bool, true, false, cond, ◌&&◌, eqb, ltb, List, get_or, sym, refl, ap, ◌∙◌, subst, ap₂, arith}
+use Rattle.std.proofs.Common.{◌≡◌, ℕ, ◌+◌, ◌<◌, Bool, true, false, cond, ◌&&◌, eqb, List, get_or, sym, refl, ap, ◌∙◌, subst}
 use lib.Bits.{bit_xor, xor_zero_r}
 use borrow.Author.Tests.{eq-true, lt-true}
 use Rattle.code.specs.Numbers.{only}
-use Rattle.code.specs.Code.{Blocks, Rule, spot, rows, meets, butterfly}
+use Rattle.code.specs.Code.{Rule, spot, rows, meets, butterfly}
 use Rattle.code.specs.Neighbours.{Tournament}
 use Rattle.code.proofs.Linear.{difference, butterfly_same, butterfly_xor}
 use Rattle.shelf.specs.Slots.{slot, row_slot, line_slot, IsSlot, SlotAdded, Plus, nothing, one, holds_but, to_lines}

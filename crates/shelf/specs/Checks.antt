@@ -5,12 +5,11 @@ use Rattle.tray.specs.declared.fault.Refusal.TheVariants as refusal
 use Rattle.tray.specs.declared.fault.Fault.{Fault}
 use Rattle.tray.specs.Refusals.{shelf_fault, silent_fault}
 use Rattle.tray.specs.Meaning.{Meaning}
-use Rattle.code.specs.Widths.{is_width}
 use Rattle.code.specs.Code.{rows}
 use Rattle.shelf.specs.declared.roster.missing.Missing.{Missing}
 use Rattle.shelf.specs.declared.roster.missing.Missing.TheVariants.{Nothing}
-use Rattle.shelf.specs.Missing.{is_out, is_full, is_empty, removed, is_size}
-use Rattle.shelf.specs.Rosters.{Rostered, out_of, full_roster}
+use Rattle.shelf.specs.Missing.{is_out, is_full, is_empty, removed}
+use Rattle.shelf.specs.Rosters.{Rostered, out_of}
 
 -- the tray has the shape of the shelf
 abbrev pub is_shaped : Rostered → Meaning → Bool

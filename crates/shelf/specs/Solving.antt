@@ -1,6 +1,6 @@
 -- Solving two lost columns in the work space: data column p with data column q, of which p is a right neighbour, or with
 -- the horizontal column, which is q = k. The slots of rows and lines hold sums of what is still unknown.
-use Rattle.std.specs.Prelude.{◌≡◌, ℕ, ◌+◌, ◌<◌, ◌≤◌, Bool, true, false, cond, not, ◌&&◌, ◌||◌, ◌≢◌, List, ◌==◌, bit_xor, nat_lt}
+use Rattle.std.specs.Prelude.{◌≡◌, ℕ, ◌<◌, ◌≤◌, Bool, true, false, not, ◌&&◌, ◌||◌, ◌≢◌, List, ◌==◌, bit_xor, nat_lt}
 use Rattle.code.specs.Numbers.{only}
 use Rattle.code.specs.Code.{Blocks, Rule, rows, meets, butterfly, value}
 use Rattle.code.specs.Laws.{rank}

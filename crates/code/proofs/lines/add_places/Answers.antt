@@ -1,4 +1,4 @@
-use Rattle.std.proofs.Common.{◌≡◌, ℕ, Bool, vec_items, sym, ap, ◌∙◌, append-nil}
+use Rattle.std.proofs.Common.{ℕ, Bool, vec_items, sym, ap, ◌∙◌, append-nil}
 use Rattle.code.specs.Numbers.{those}
 use Rattle.code.specs.Neighbours.{published}
 use Rattle.code.specs.Lines.{takes}

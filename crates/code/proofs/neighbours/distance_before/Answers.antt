@@ -1,5 +1,4 @@
-use Rattle.std.proofs.Common.{◌≡◌, ℕ, ◌+◌, ◌-◌, sym, ap, ◌∙◌, arith}
-use Rattle.code.specs.Neighbours.{distance}
+use Rattle.std.proofs.Common.{sym, arith}
 use Rattle.code.proofs.Published.{ahead, behind}
 use Rattle.code.proofs.neighbours.distance_before.Goals as goal
 

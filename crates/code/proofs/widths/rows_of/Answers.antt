@@ -1,4 +1,4 @@
-use Rattle.std.proofs.Common.{ℕ, ◌-◌, cond, sym, ap, ◌∙◌, arith}
+use Rattle.std.proofs.Common.{◌-◌, cond, sym, ap, ◌∙◌, arith}
 use Rattle.std.proofs.lemmas.Nat.{one_shl}
 use Rattle.code.specs.Code.{rows}
 use Rattle.code.proofs.Limits.{a_width}

@@ -1,4 +1,4 @@
-use Rattle.std.proofs.Common.{◌≡◌, ◌<◌, length, sym, ◌∙◌, subst, arith, rules}
+use Rattle.std.proofs.Common.{◌≡◌, ◌<◌, length, subst, arith, rules}
 use Rattle.code.specs.Code.{rows}
 use Rattle.shelf.specs.Rosters.{roster_of}
 use Rattle.lab.specs.Obeying.{Filled, more}

@@ -1,4 +1,4 @@
-use Rattle.std.proofs.Common.{◌≡◌, ℕ, cond, sym, refl, ap, ◌∙◌}
+use Rattle.std.proofs.Common.{cond, sym, ap, ◌∙◌}
 use Rattle.code.specs.Numbers.{only}
 use Rattle.code.specs.Code.{rows}
 use Rattle.law.specs.Holding.{held}

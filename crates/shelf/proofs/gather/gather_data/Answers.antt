@@ -1,4 +1,4 @@
-use Rattle.std.proofs.Common.{◌≡◌, ℕ, ◌+◌, cond, length, sym, ap, ◌∙◌, arith}
+use Rattle.std.proofs.Common.{ℕ, ◌+◌, cond, length, sym, ap, ◌∙◌}
 use Rattle.code.specs.Code.{rows}
 use Rattle.code.specs.Neighbours.{published}
 use Rattle.law.specs.Holding.{held}

@@ -1,10 +1,10 @@
-use Rattle.std.proofs.Common.{◌≡◌, ℕ, true, false, cond, length, sym, ap, ◌∙◌, arith}
+use Rattle.std.proofs.Common.{◌≡◌, true, false, cond, length, sym, ap, ◌∙◌}
 use Rattle.code.specs.Code.{rows}
 use Rattle.code.specs.Neighbours.{published}
 use Rattle.law.specs.Holding.{held}
 use Rattle.shelf.specs.Missing.{is_out}
 use Rattle.shelf.specs.Reading.{after_reads, times, part, in_service}
-use Rattle.shelf.proofs.Gathering.{column_none, sums_none, sums_same, part_served, none_served, heard_one}
+use Rattle.shelf.proofs.Gathering.{column_none, sums_none, sums_same, part_served, none_served}
 use Rattle.shelf.proofs.gather.gather_served.Goals as goal
 
 pub returns-then-not-is_out : goal.returns-then-not-is_out

@@ -1,4 +1,4 @@
-use Rattle.std.proofs.Common.{ℕ, ◌+◌, cond, eqb, get_or, sym, ap, ◌∙◌, arith}
+use Rattle.std.proofs.Common.{ℕ, ◌+◌, cond, eqb, get_or, ap, ◌∙◌, arith}
 use Rattle.law.specs.Holding.{held}
 use Rattle.shelf.specs.Slots.{slot}
 use Rattle.shelf.proofs.Adding.{has_slot, room_kept, rows_are, filled_none, filled_more}

@@ -1,4 +1,4 @@
-use Rattle.std.proofs.Common.{◌≡◌, length, inl, inr, arith}
+use Rattle.std.proofs.Common.{length, inl, inr, arith}
 use Rattle.code.specs.Neighbours.{published}
 use Rattle.shelf.specs.declared.roster.missing.Missing.TheVariants.{Two}
 use Rattle.shelf.proofs.Recovered.{found_parities, either_way, which_of}

@@ -1,9 +1,6 @@
-use Rattle.std.proofs.Common.{◌≡◌, ℕ, ◌+◌, ◌<◌, cond, eqb, ltb, sym, ap, ◌∙◌, ap₂, arith}
-use borrow.Author.Tests.{eq-true, ne_false, lt-true, le-false}
-use Rattle.code.specs.Code.{rows, meets}
+use Rattle.std.proofs.Common.{◌+◌, sym, ap, ◌∙◌, ap₂, arith}
 use Rattle.code.proofs.Limits.{a_width}
 use Rattle.code.proofs.Rows.{meets_lt}
-use Rattle.shelf.specs.Recovering.{slot_for}
 use Rattle.shelf.proofs.Recovered.{rows_of_width, by_rows, by_line, by_number}
 use Rattle.shelf.proofs.recover.slot_for.Goals as goal
 

@@ -1,5 +1,4 @@
-use Rattle.std.proofs.Common.{◌≡◌, ℕ, length, ap, arith}
-use Rattle.shelf.specs.Slots.{AddedUpTo}
+use Rattle.std.proofs.Common.{◌≡◌, length, arith}
 use Rattle.shelf.proofs.Indices.{slot_added}
 use Rattle.shelf.proofs.slots.add.Goals as goal
 

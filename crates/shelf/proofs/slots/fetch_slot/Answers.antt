@@ -1,4 +1,4 @@
-use Rattle.std.proofs.Common.{cond, eqb, get_or, sym, ap, ◌∙◌, subst, arith}
+use Rattle.std.proofs.Common.{cond, eqb, get_or, ap, ◌∙◌, arith}
 use Rattle.shelf.specs.Slots.{slot}
 use Rattle.shelf.proofs.Indices.{slot_put}
 use Rattle.shelf.proofs.slots.fetch_slot.Goals as goal

@@ -1,4 +1,4 @@
-use Rattle.std.proofs.Common.{◌≡◌, arith}
+use Rattle.std.proofs.Common.{arith}
 use Rattle.code.specs.Neighbours.{published}
 use Rattle.shelf.proofs.Ranks.{white_parts, rank_is, few_whites}
 use Rattle.shelf.proofs.solve.rank_of.Goals as goal

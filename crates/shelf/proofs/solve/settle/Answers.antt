@@ -1,4 +1,4 @@
-use Rattle.std.proofs.Common.{◌≡◌, ℕ, ◌+◌, length, ap, ◌∙◌, arith}
+use Rattle.std.proofs.Common.{◌≡◌, ◌+◌, length, ap, ◌∙◌, arith}
 use Rattle.code.specs.Code.{rows, meets}
 use Rattle.code.specs.Neighbours.{published}
 use Rattle.code.proofs.Limits.{a_width}

@@ -1,4 +1,4 @@
-use Rattle.std.proofs.Common.{◌≡◌, length, sym, ◌∙◌, arith}
+use Rattle.std.proofs.Common.{length, sym, ◌∙◌}
 use Rattle.code.specs.Neighbours.{published}
 use Rattle.code.proofs.Limits.{law_of_width}
 use Rattle.shelf.proofs.Ranks.{settle_next, pass_over, no_right}

@@ -1,9 +1,8 @@
-use Rattle.std.proofs.Common.{◌≡◌, ℕ, eqb, length, get_or, sym, refl, ap, ◌∙◌, arith}
-use lib.Bits.{bit_xor, xor_zero_r}
+use Rattle.std.proofs.Common.{eqb, length, get_or, ◌∙◌, arith}
+use lib.Bits.{xor_zero_r}
 use Rattle.code.specs.Numbers.{only}
-use Rattle.code.specs.Code.{rows}
 use Rattle.code.specs.Neighbours.{published}
-use Rattle.code.proofs.Limits.{law_of_width, some_rows}
+use Rattle.code.proofs.Limits.{law_of_width}
 use Rattle.shelf.specs.Slots.{nothing, to_lines}
 use Rattle.shelf.proofs.Adding.{has_slot, plus_row, plus_plus, plus_same}
 use Rattle.shelf.proofs.Holding.{row_of_one, lines_of_one}

@@ -1,10 +1,9 @@
-use Rattle.std.proofs.Common.{◌≡◌, ℕ, ◌+◌, ◌<◌, Bool, true, false, ◌&&◌, eqb, length, get_or, sym, refl, ap, ◌∙◌, subst, arith}
+use Rattle.std.proofs.Common.{◌≡◌, ◌+◌, Bool, true, false, ◌&&◌, eqb, length, get_or, sym, refl, ap, ◌∙◌, arith}
 use Rattle.code.specs.Numbers.{only}
 use Rattle.code.specs.Code.{rows, meets}
 use Rattle.code.proofs.Limits.{a_width}
 use Rattle.code.proofs.Rows.{meets_lt}
-use Rattle.code.proofs.Xor.{only_false}
-use Rattle.shelf.specs.Slots.{SlotAdded, nothing}
+use Rattle.shelf.specs.Slots.{nothing}
 use Rattle.shelf.proofs.Adding.{has_slot, plus_line, plus_none, plus_same}
 use Rattle.shelf.proofs.sums.add_through.Goals as goal
 

@@ -1,6 +1,6 @@
-use Rattle.std.proofs.Common.{◌≡◌, ℕ, ◌+◌, length, get_or, sym, refl, ap, ◌∙◌, arith}
+use Rattle.std.proofs.Common.{◌≡◌, ◌+◌, length, sym, refl, arith}
 use Rattle.code.specs.Neighbours.{published}
-use Rattle.shelf.specs.Slots.{Plus, nothing, passed, to_lines}
+use Rattle.shelf.specs.Slots.{nothing, passed, to_lines}
 use Rattle.shelf.proofs.Adding.{plus_none, plus_same, plus_plus, room_kept}
 use Rattle.shelf.proofs.Holding.{passed_none, passed_next, passed_all}
 use Rattle.shelf.proofs.sums.add_to_lines.Goals as goal

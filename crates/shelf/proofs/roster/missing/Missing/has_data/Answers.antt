@@ -1,4 +1,4 @@
-use Rattle.std.proofs.Common.{◌≡◌, Bool, true, false, ◌||◌, ltb, sym, refl, ap, ◌∙◌, ap₂}
+use Rattle.std.proofs.Common.{false, ◌||◌, ltb, sym, refl, ap, ◌∙◌}
 use borrow.Author.Tests.{lt-true, le-false}
 use Rattle.shelf.specs.Missing.{is_out}
 use Rattle.shelf.specs.Reading.{data_out}
