@@ -4,21 +4,21 @@
 
 mod page;
 
-use anyhow::anyhow;
 use code::lines::places_of;
 use code::places::Line;
 use code::widths::rows_of;
 use page::{Page, Sum, width_of};
 use std::env;
+use std::process::ExitCode;
 
-fn main(rt: HostRuntime) -> anyhow::Result<()> {
+fn main(rt: HostRuntime) -> anyhow::Result<ExitCode> {
     let mut k = 3;
     if let Some(text) = env::args(&rt)?.nth(1) {
         let Some(width) = width_of(text.as_str()) else {
             eprintln!(rt;
                 "worksheet: '{text}' is no width: give an odd number from 3 to 11, or nothing for 3"
             )?;
-            return Err(anyhow!("no width"));
+            return Ok(ExitCode::FAILURE);
         };
         k = width;
     }
@@ -30,5 +30,5 @@ fn main(rt: HostRuntime) -> anyhow::Result<()> {
             places: places_of(rt.alloc(), k, line)?,
         })?;
     }
-    Ok(())
+    Ok(ExitCode::SUCCESS)
 }
