@@ -65,6 +65,7 @@ impl Row {
     }
 
     // At how many columns the row is white.
+    #[tactic(auto, using(crate::proofs::Rows::white_ones))]
     pub fn whites(self) -> u32
         ensures { result ≡ count 33 (λ j. not (dark self.0 j)) }
     {
