@@ -18,7 +18,8 @@ use tray::trays::Tray;
 
 // Fills the slots from `first` on, one for each row, with zeros.
 fn clear(k: u32, first: usize, size: usize, work: &mut [u8])
-    requires { (Room k size work.old) × (first ≤ rows k) }
+    requires room { Room k size work.old }
+    requires first { first ≤ rows k }
     ensures { Filled size work.old first (rows k) (λ _ _. 0) work.new }
 {
     for row in 0..rows_of(k) {
@@ -28,7 +29,9 @@ fn clear(k: u32, first: usize, size: usize, work: &mut [u8])
 
 // Reads a column once into the slots from `first` on, one for each row.
 fn load<T: Tray>(tray: &mut T, k: u32, column: u32, first: usize, size: usize, work: &mut [u8])
-    requires { (Room k size work.old) × ((Answers k size (T.Tray.meaning tray.old) column) × (first ≤ rows k)) }
+    requires room { Room k size work.old }
+    requires answers { Answers k size (T.Tray.meaning tray.old) column }
+    requires first { first ≤ rows k }
     ensures tray { T.Tray.meaning tray.new ≡ after_reads (T.Tray.meaning tray.old) (times column (rows k)) }
     ensures work { Filled size work.old first (rows k) (λ r b. held (T.Tray.meaning tray.old) b r column) work.new }
 {
@@ -47,7 +50,9 @@ fn begin<T: Tray>(
     size: usize,
     work: &mut [u8],
 )
-    requires { (Room k size work.old) × (((is_read ≡ true → Answers k size (T.Tray.meaning tray.old) column)) × (first ≤ rows k)) }
+    requires room { Room k size work.old }
+    requires answers { is_read ≡ true → Answers k size (T.Tray.meaning tray.old) column }
+    requires first { first ≤ rows k }
     ensures tray { T.Tray.meaning tray.new ≡ after_reads (T.Tray.meaning tray.old) (times column (cond is_read (rows k) 0)) }
     ensures work { Filled size work.old first (rows k) (λ r b. only is_read (held (T.Tray.meaning tray.old) b r column)) work.new }
 {
@@ -66,7 +71,9 @@ pub(crate) fn gather_column<T: Tray>(
     block: &mut [u8],
     work: &mut [u8],
 )
-    requires { (Room k (length block.old) work.old) × ((Answers k (length block.old) (T.Tray.meaning tray.old) column) × (column < k)) }
+    requires room { Room k (length block.old) work.old }
+    requires answers { Answers k (length block.old) (T.Tray.meaning tray.old) column }
+    requires column { column < k }
     ensures tray { T.Tray.meaning tray.new ≡ after_reads (T.Tray.meaning tray.old) (times column (rows k)) }
     ensures work { Summed k (published k) (length block.old) work.old (λ b. part column (rows k) (held (T.Tray.meaning tray.old) b)) work.new }
 {
@@ -85,7 +92,9 @@ fn gather_served<T: Tray>(
     block: &mut [u8],
     work: &mut [u8],
 )
-    requires { (Room k (length block.old) work.old) × ((Heard k (length block.old) (is_out out) (T.Tray.meaning tray.old)) × (column < k)) }
+    requires room { Room k (length block.old) work.old }
+    requires heard { Heard k (length block.old) (is_out out) (T.Tray.meaning tray.old) }
+    requires column { column < k }
     ensures tray { T.Tray.meaning tray.new ≡ after_reads (T.Tray.meaning tray.old) (times column (if is_out out column then 0 else rows k)) }
     ensures work { Summed k (published k) (length block.old) work.old (λ b. in_service (is_out out) column (held (T.Tray.meaning tray.old) b)) work.new }
 {
@@ -96,7 +105,8 @@ fn gather_served<T: Tray>(
 
 // Reads every data column in service once and adds its blocks to the sums.
 fn gather_data<T: Tray>(tray: &mut T, k: u32, out: Missing, block: &mut [u8], work: &mut [u8])
-    requires { (Room k (length block.old) work.old) × (Heard k (length block.old) (is_out out) (T.Tray.meaning tray.old)) }
+    requires room { Room k (length block.old) work.old }
+    requires heard { Heard k (length block.old) (is_out out) (T.Tray.meaning tray.old) }
     ensures tray { T.Tray.meaning tray.new ≡ after_reads (T.Tray.meaning tray.old) (each_below (is_out out) (rows k) k) }
     ensures work { Summed k (published k) (length block.old) work.old (λ b. served (is_out out) k (held (T.Tray.meaning tray.old) b)) work.new }
 {
@@ -108,7 +118,8 @@ fn gather_data<T: Tray>(tray: &mut T, k: u32, out: Missing, block: &mut [u8], wo
 // Reads what tells the missing columns, each block once, and leaves what it adds up to: all data in service, and the
 // parities in service where a data column is out.
 pub(crate) fn gather<T: Tray>(tray: &mut T, k: u32, out: Missing, block: &mut [u8], work: &mut [u8])
-    requires { (Room k (length block.old) work.old) × (Heard k (length block.old) (is_out out) (T.Tray.meaning tray.old)) }
+    requires room { Room k (length block.old) work.old }
+    requires heard { Heard k (length block.old) (is_out out) (T.Tray.meaning tray.old) }
     ensures tray { T.Tray.meaning tray.new ≡ after_reads (T.Tray.meaning tray.old) (once_each k (is_out out)) }
     ensures work { Gathered k (published k) (length block.old) (is_out out) (T.Tray.meaning tray.old) work.new }
 {

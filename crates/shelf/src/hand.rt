@@ -27,7 +27,9 @@ fn hand_solved<T: Tray>(
     work: &mut [u8],
     block: &mut [u8],
 )
-    requires { (Reach k (length block.old) out (T.Tray.meaning tray.old) column row.0 work.old) × ((is_out out column ≡ true) × (is_full out ≡ true)) }
+    requires reach { Reach k (length block.old) out (T.Tray.meaning tray.old) column row.0 work.old }
+    requires missing { is_out out column ≡ true }
+    requires full { is_full out ≡ true }
     ensures at_hand { AtHand k (published k) (length block.old) (is_out out) (T.Tray.meaning tray.old) row.0 column block.new }
     ensures calm { Calm (T.Tray.meaning tray.old) (T.Tray.meaning tray.new) }
 {
@@ -45,7 +47,9 @@ fn hand_sole<T: Tray>(
     work: &mut [u8],
     block: &mut [u8],
 )
-    requires { (Reach k (length block.old) out (T.Tray.meaning tray.old) column row.0 work.old) × ((is_out out column ≡ true) × (is_full out ≡ false)) }
+    requires reach { Reach k (length block.old) out (T.Tray.meaning tray.old) column row.0 work.old }
+    requires missing { is_out out column ≡ true }
+    requires sole { is_full out ≡ false }
     ensures at_hand { AtHand k (published k) (length block.old) (is_out out) (T.Tray.meaning tray.old) row.0 column block.new }
     ensures calm { Calm (T.Tray.meaning tray.old) (T.Tray.meaning tray.new) }
 {

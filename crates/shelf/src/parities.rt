@@ -17,7 +17,8 @@ use tray::trays::Tray;
 
 // Adds a block to one of the tray, by way of a block of scratch space.
 fn add_at<T: Tray>(tray: &mut T, column: u32, row: u32, block: &[u8], scratch: &mut [u8])
-    requires { (Ready (T.Tray.meaning tray.old) column row (length block.now)) × (length scratch.old ≡ length block.now) }
+    requires ready { Ready (T.Tray.meaning tray.old) column row (length block.now) }
+    requires scratch { length scratch.old ≡ length block.now }
     ensures { AddedAt (length block.now) (T.Tray.meaning tray.old) block.now (only_at column row) (T.Tray.meaning tray.new) }
 {
     fetch(tray, column, row, scratch);
@@ -35,7 +36,11 @@ fn add_to_line<T: Tray>(
     block: &[u8],
     scratch: &mut [u8],
 )
-    requires { (is_width k ≡ true) × ((Answers k (length block.now) (T.Tray.meaning tray.old) (k + 1)) × ((row.0 < rows k) × ((through < k) × (length scratch.old ≡ length block.now)))) }
+    requires width { is_width k ≡ true }
+    requires answers { Answers k (length block.now) (T.Tray.meaning tray.old) (k + 1) }
+    requires row { row.0 < rows k }
+    requires through { through < k }
+    requires scratch { length scratch.old ≡ length block.now }
     ensures { AddedAt (length block.now) (T.Tray.meaning tray.old) block.now (line_by k (published k) row.0 column through) (T.Tray.meaning tray.new) }
 {
     if is_taken(k, row, through, column) {
@@ -52,7 +57,10 @@ fn add_to_lines<T: Tray>(
     block: &[u8],
     scratch: &mut [u8],
 )
-    requires { (is_width k ≡ true) × ((Answers k (length block.now) (T.Tray.meaning tray.old) (k + 1)) × ((row.0 < rows k) × (length scratch.old ≡ length block.now))) }
+    requires width { is_width k ≡ true }
+    requires answers { Answers k (length block.now) (T.Tray.meaning tray.old) (k + 1) }
+    requires row { row.0 < rows k }
+    requires scratch { length scratch.old ≡ length block.now }
     ensures { AddedAt (length block.now) (T.Tray.meaning tray.old) block.now (line_places k (published k) row.0 column) (T.Tray.meaning tray.new) }
 {
     for through in 0..k {
@@ -69,7 +77,9 @@ fn add_to_sum<T: Tray>(
     block: &[u8],
     scratch: &mut [u8],
 )
-    requires { (Heard k (length block.now) (is_out out) (T.Tray.meaning tray.old)) × ((row.0 < rows k) × (length scratch.old ≡ length block.now)) }
+    requires heard { Heard k (length block.now) (is_out out) (T.Tray.meaning tray.old) }
+    requires row { row.0 < rows k }
+    requires scratch { length scratch.old ≡ length block.now }
     ensures { AddedAt (length block.now) (T.Tray.meaning tray.old) block.now (places_in_service (is_out out) (only_at k row.0)) (T.Tray.meaning tray.new) }
 {
     if !out.is_out(k) {
@@ -87,7 +97,10 @@ pub(crate) fn add_to_parities<T: Tray>(
     block: &[u8],
     scratch: &mut [u8],
 )
-    requires { (is_width k ≡ true) × ((Heard k (length block.now) (is_out out) (T.Tray.meaning tray.old)) × ((row.0 < rows k) × (length scratch.old ≡ length block.now))) }
+    requires width { is_width k ≡ true }
+    requires heard { Heard k (length block.now) (is_out out) (T.Tray.meaning tray.old) }
+    requires row { row.0 < rows k }
+    requires scratch { length scratch.old ≡ length block.now }
     ensures { AddedAt (length block.now) (T.Tray.meaning tray.old) block.now (parities_of k (published k) (is_out out) row.0 column) (T.Tray.meaning tray.new) }
 {
     add_to_sum(tray, k, out, row, block, scratch);

@@ -43,7 +43,8 @@ impl Roster {
         change: &mut [u8],
         work: &mut [u8],
     )
-        requires { (Reach (roster_of self.now).width (length block.now) (roster_of self.now).missing (T.Tray.meaning tray.old) column row.0 work.old) × (length change.old ≡ length block.now) }
+        requires reach { Reach (roster_of self.now).width (length block.now) (roster_of self.now).missing (T.Tray.meaning tray.old) column row.0 work.old }
+        requires change { length change.old ≡ length block.now }
         ensures { Put (roster_of self.now).width (published (roster_of self.now).width) (length block.now) (out_of (roster_of self.now)) (T.Tray.meaning tray.old) column row.0 block.now (T.Tray.meaning tray.new) }
     {
         let k = self.width();

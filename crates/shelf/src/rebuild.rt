@@ -42,7 +42,9 @@ enum Whereabouts {
 
 // The slot of a row of a data column that alone is out.
 fn sole_slot(k: u32, column: u32, row: Row) -> usize
-    requires { (is_width k ≡ true) × ((column < k) × (row.0 < rows k)) }
+    requires width { is_width k ≡ true }
+    requires column { column < k }
+    requires row { row.0 < rows k }
     ensures value { result ≡ sole_slot k column row.0 }
     ensures within { result < rows k + rows k }
 {
@@ -56,7 +58,9 @@ fn sole_slot(k: u32, column: u32, row: Row) -> usize
 impl Whereabouts {
     // The slot of a row of the column.
     fn slot(self, k: u32, column: u32, row: Row) -> usize
-        requires { (is_width k ≡ true) × (((self ≡ Whereabouts.Alone → column < k)) × (row.0 < rows k)) }
+        requires width { is_width k ≡ true }
+        requires column { self ≡ Whereabouts.Alone → column < k }
+        requires row { row.0 < rows k }
         ensures value { result ≡ slot_of k self column row.0 }
         ensures within { result < rows k + rows k }
     {
@@ -111,7 +115,10 @@ fn locate<T: Tray>(
     block: &mut [u8],
     work: &mut [u8],
 ) -> Whereabouts
-    requires { (Room k (length block.old) work.old) × ((Heard k (length block.old) (is_out out) (T.Tray.meaning tray.old)) × ((are_columns k out ≡ true) × (is_out out column ≡ true))) }
+    requires room { Room k (length block.old) work.old }
+    requires heard { Heard k (length block.old) (is_out out) (T.Tray.meaning tray.old) }
+    requires columns { are_columns k out ≡ true }
+    requires missing { is_out out column ≡ true }
     ensures { Located k (published k) (length block.old) out (T.Tray.meaning tray.old) column result (T.Tray.meaning tray.new) work.new }
 {
     if out.is_sole_data(k) {
@@ -125,7 +132,8 @@ fn locate<T: Tray>(
 
 // Writes a block from a slot.
 fn place_slot<T: Tray>(tray: &mut T, column: u32, row: u32, work: &[u8], slot: usize, size: usize)
-    requires { (Ready (T.Tray.meaning tray.old) column row size) × ((slot + 1) * size ≤ length work.now) }
+    requires ready { Ready (T.Tray.meaning tray.old) column row size }
+    requires within { (slot + 1) * size ≤ length work.now }
     ensures { T.Tray.meaning tray.new ≡ stored (T.Tray.meaning tray.old) column row (slot_block size work.now slot) }
 {
     let at = slot * size;
@@ -141,7 +149,9 @@ fn write_column<T: Tray>(
     size: usize,
     work: &[u8],
 )
-    requires { (Room k size work.now) × ((Answers k size (T.Tray.meaning tray.old) column) × ((found ≡ Whereabouts.Alone → column < k))) }
+    requires room { Room k size work.now }
+    requires answers { Answers k size (T.Tray.meaning tray.old) column }
+    requires column { found ≡ Whereabouts.Alone → column < k }
     ensures { T.Tray.meaning tray.new ≡ written (T.Tray.meaning tray.old) column (rows k) (λ i. slot_block size work.now (slot_of k found column i)) }
 {
     for row in 0..rows_of(k) {
@@ -165,7 +175,11 @@ fn refill<T: Tray>(
     block: &mut [u8],
     work: &mut [u8],
 ) -> u32
-    requires { (Room k (length block.old) work.old) × ((Heard k (length block.old) (is_out out) (T.Tray.meaning tray.old)) × (((T.Tray.meaning tray.old).answers column ≡ true) × ((are_columns k out ≡ true) × (is_out out column ≡ true)))) }
+    requires room { Room k (length block.old) work.old }
+    requires heard { Heard k (length block.old) (is_out out) (T.Tray.meaning tray.old) }
+    requires answers { (T.Tray.meaning tray.old).answers column ≡ true }
+    requires columns { are_columns k out ≡ true }
+    requires missing { is_out out column ≡ true }
     ensures count { result ≡ reads_of k out }
     ensures done { Rebuilt k (published k) (length block.old) (is_out out) (T.Tray.meaning tray.old) column result (removed (is_out out) column) (T.Tray.meaning tray.new) }
 {

@@ -18,7 +18,8 @@ use tray::trays::Tray;
 
 // The slot of a row of a missing column, once the columns are found and the column `by` lies by rows.
 pub(crate) fn slot_for(k: u32, by: u32, column: u32, row: Row) -> usize
-    requires { (is_width k ≡ true) × (row.0 < rows k) }
+    requires width { is_width k ≡ true }
+    requires row { row.0 < rows k }
     ensures value { result ≡ slot_for k by column row.0 }
     ensures within { result < rows k + rows k }
 {
@@ -33,7 +34,10 @@ pub(crate) fn slot_for(k: u32, by: u32, column: u32, row: Row) -> usize
 
 // Finds two data columns, and answers the one that lies by rows: of the two, the one that has the other for a right neighbour.
 fn find_data(work: &mut [u8], k: u32, a: u32, b: u32, block: &mut [u8]) -> u32
-    requires { (Room k (length block.old) work.old) × ((a < k) × ((b < k) × (a ≢ b))) }
+    requires room { Room k (length block.old) work.old }
+    requires a { a < k }
+    requires b { b < k }
+    requires apart { a ≢ b }
     ensures { Finds k (published k) (length block.old) (Missing.Two a b) work.old result work.new }
 {
     if is_right(k, b, a) {
@@ -49,7 +53,10 @@ fn find_data(work: &mut [u8], k: u32, a: u32, b: u32, block: &mut [u8]) -> u32
 
 // Finds a data column and a parity column, and answers the one that lies by rows.
 fn find_with_parity(work: &mut [u8], k: u32, column: u32, parity: u32, block: &mut [u8]) -> u32
-    requires { (Room k (length block.old) work.old) × ((column < k) × ((k ≤ parity) × (parity < k + 2))) }
+    requires room { Room k (length block.old) work.old }
+    requires column { column < k }
+    requires parity { k ≤ parity }
+    requires below { parity < k + 2 }
     ensures { Finds k (published k) (length block.old) (Missing.Two column parity) work.old result work.new }
 {
     if parity == k {
@@ -63,7 +70,8 @@ fn find_with_parity(work: &mut [u8], k: u32, column: u32, parity: u32, block: &m
 
 // Finds two columns, and answers the one that lies by rows.
 fn find_two(work: &mut [u8], k: u32, a: u32, b: u32, block: &mut [u8]) -> u32
-    requires { (Room k (length block.old) work.old) × (are_columns k (Missing.Two a b) ≡ true) }
+    requires room { Room k (length block.old) work.old }
+    requires columns { are_columns k (Missing.Two a b) ≡ true }
     ensures { Finds k (published k) (length block.old) (Missing.Two a b) work.old result work.new }
 {
     if a >= k && b >= k {
@@ -79,7 +87,9 @@ fn find_two(work: &mut [u8], k: u32, a: u32, b: u32, block: &mut [u8]) -> u32
 
 // Finds the missing columns from what was gathered, and answers the column that lies by rows.
 fn find(work: &mut [u8], k: u32, out: Missing, block: &mut [u8]) -> u32
-    requires { (Room k (length block.old) work.old) × ((are_columns k out ≡ true) × (is_sole_data k out ≡ false)) }
+    requires room { Room k (length block.old) work.old }
+    requires columns { are_columns k out ≡ true }
+    requires several { is_sole_data k out ≡ false }
     ensures { Finds k (published k) (length block.old) out work.old result work.new }
 {
     match out {
@@ -97,7 +107,10 @@ pub(crate) fn recover<T: Tray>(
     block: &mut [u8],
     work: &mut [u8],
 ) -> u32
-    requires { (Room k (length block.old) work.old) × ((Heard k (length block.old) (is_out out) (T.Tray.meaning tray.old)) × ((are_columns k out ≡ true) × (is_sole_data k out ≡ false))) }
+    requires room { Room k (length block.old) work.old }
+    requires heard { Heard k (length block.old) (is_out out) (T.Tray.meaning tray.old) }
+    requires columns { are_columns k out ≡ true }
+    requires several { is_sole_data k out ≡ false }
     ensures tray { T.Tray.meaning tray.new ≡ after_reads (T.Tray.meaning tray.old) (once_each k (is_out out)) }
     ensures work { Found k (published k) (length block.old) (is_out out) (T.Tray.meaning tray.old) result work.new }
 {

@@ -32,7 +32,10 @@ fn add_other<T: Tray>(
     block: &mut [u8],
     work: &mut [u8],
 )
-    requires { (Room k (length block.old) work.old) × ((Alone k (length block.old) (T.Tray.meaning tray.old) lost) × ((row.0 < rows k) × (column < k))) }
+    requires room { Room k (length block.old) work.old }
+    requires alone { Alone k (length block.old) (T.Tray.meaning tray.old) lost }
+    requires row { row.0 < rows k }
+    requires column { column < k }
     ensures tray { T.Tray.meaning tray.new ≡ after_reads (T.Tray.meaning tray.old) (times column (if nat_eq column lost then 0 else 1)) }
     ensures work { Plus k (length block.old) work.old (λ b r. only (r == row.0) (unless (T.Tray.meaning tray.old) row.0 lost column b)) (λ b. lines_but k (published k) row.0 lost (spot row.0 column (unless (T.Tray.meaning tray.old) row.0 lost column b))) work.new }
 {
@@ -45,7 +48,9 @@ fn add_other<T: Tray>(
 
 // The same for every data column: the row of the lost one is left to find.
 fn add_others<T: Tray>(tray: &mut T, k: u32, lost: u32, row: Row, block: &mut [u8], work: &mut [u8])
-    requires { (Room k (length block.old) work.old) × ((Alone k (length block.old) (T.Tray.meaning tray.old) lost) × (row.0 < rows k)) }
+    requires room { Room k (length block.old) work.old }
+    requires alone { Alone k (length block.old) (T.Tray.meaning tray.old) lost }
+    requires row { row.0 < rows k }
     ensures tray { T.Tray.meaning tray.new ≡ after_reads (T.Tray.meaning tray.old) (once_below lost k) }
     ensures work { Plus k (length block.old) work.old (λ b r. only (r == row.0) (others k lost (held (T.Tray.meaning tray.old) b row.0))) (λ b. lines_but k (published k) row.0 lost (row_of row.0 (below lost k (held (T.Tray.meaning tray.old) b)))) work.new }
 {
@@ -57,7 +62,9 @@ fn add_others<T: Tray>(tray: &mut T, k: u32, lost: u32, row: Row, block: &mut [u
 // Finds a row of the lost column by the row's sum, in the slot of the row, and adds the whole row to the lines that hold
 // its places, but for the line through the lost place.
 fn regain_row<T: Tray>(tray: &mut T, k: u32, lost: u32, row: Row, block: &mut [u8], work: &mut [u8])
-    requires { (Room k (length block.old) work.old) × ((Alone k (length block.old) (T.Tray.meaning tray.old) lost) × (row.0 < rows k)) }
+    requires room { Room k (length block.old) work.old }
+    requires alone { Alone k (length block.old) (T.Tray.meaning tray.old) lost }
+    requires row { row.0 < rows k }
     ensures tray { T.Tray.meaning tray.new ≡ after_reads (T.Tray.meaning tray.old) (of_rows k lost 1) }
     ensures work { RowFound k (published k) (length block.old) lost (held (T.Tray.meaning tray.old)) row.0 work.old work.new }
 {
@@ -76,7 +83,10 @@ fn regain_if_dark<T: Tray>(
     block: &mut [u8],
     work: &mut [u8],
 )
-    requires { (Room k (length block.old) work.old) × ((Alone k (length block.old) (T.Tray.meaning tray.old) lost) × ((row.0 < rows k) × (Halfway k (published k) (length block.old) lost (held (T.Tray.meaning tray.old)) row.0 work.old))) }
+    requires room { Room k (length block.old) work.old }
+    requires alone { Alone k (length block.old) (T.Tray.meaning tray.old) lost }
+    requires row { row.0 < rows k }
+    requires halfway { Halfway k (published k) (length block.old) lost (held (T.Tray.meaning tray.old)) row.0 work.old }
     ensures tray { T.Tray.meaning tray.new ≡ after_reads (T.Tray.meaning tray.old) (of_rows k lost (if dark row.0 lost then 1 else 0)) }
     ensures work { Halfway k (published k) (length block.old) lost (held (T.Tray.meaning tray.old)) (row.0 + 1) work.new }
 {
@@ -88,7 +98,9 @@ fn regain_if_dark<T: Tray>(
 // Finds the dark rows of the lost column, where the lines through its white places are read already; these lines are then
 // left with the white places alone.
 fn regain_rows<T: Tray>(tray: &mut T, k: u32, lost: u32, block: &mut [u8], work: &mut [u8])
-    requires { (Room k (length block.old) work.old) × ((Alone k (length block.old) (T.Tray.meaning tray.old) lost) × (LinesRead k (length block.old) lost (held (T.Tray.meaning tray.old)) (rows k) work.old)) }
+    requires room { Room k (length block.old) work.old }
+    requires alone { Alone k (length block.old) (T.Tray.meaning tray.old) lost }
+    requires lines { LinesRead k (length block.old) lost (held (T.Tray.meaning tray.old)) (rows k) work.old }
     ensures tray { T.Tray.meaning tray.new ≡ after_reads (T.Tray.meaning tray.old) (of_rows k lost (count (rows k) (λ i. dark i lost))) }
     ensures work { Halfway k (published k) (length block.old) lost (held (T.Tray.meaning tray.old)) (rows k) work.new }
 {
@@ -99,7 +111,10 @@ fn regain_rows<T: Tray>(tray: &mut T, k: u32, lost: u32, block: &mut [u8], work:
 
 // Goes on to the next row: if it is white for the lost column, the line through its place there is read.
 fn read_if_white<T: Tray>(tray: &mut T, k: u32, lost: u32, row: Row, size: usize, work: &mut [u8])
-    requires { (Room k size work.old) × ((Alone k size (T.Tray.meaning tray.old) lost) × ((row.0 < rows k) × (LinesRead k size lost (held (T.Tray.meaning tray.old)) row.0 work.old))) }
+    requires room { Room k size work.old }
+    requires alone { Alone k size (T.Tray.meaning tray.old) lost }
+    requires row { row.0 < rows k }
+    requires lines { LinesRead k size lost (held (T.Tray.meaning tray.old)) row.0 work.old }
     ensures tray { T.Tray.meaning tray.new ≡ after_reads (T.Tray.meaning tray.old) (times (k + 1) (if dark row.0 lost then 0 else 1)) }
     ensures work { LinesRead k size lost (held (T.Tray.meaning tray.old)) (row.0 + 1) work.new }
 {
@@ -111,7 +126,8 @@ fn read_if_white<T: Tray>(tray: &mut T, k: u32, lost: u32, row: Row, size: usize
 
 // Reads the lines through the white places of the lost column.
 fn read_lines<T: Tray>(tray: &mut T, k: u32, lost: u32, size: usize, work: &mut [u8])
-    requires { (Room k size work.old) × (Alone k size (T.Tray.meaning tray.old) lost) }
+    requires room { Room k size work.old }
+    requires alone { Alone k size (T.Tray.meaning tray.old) lost }
     ensures tray { T.Tray.meaning tray.new ≡ after_reads (T.Tray.meaning tray.old) (times (k + 1) (rows k - count (rows k) (λ i. dark i lost))) }
     ensures work { LinesRead k size lost (held (T.Tray.meaning tray.old)) (rows k) work.new }
 {
@@ -123,7 +139,8 @@ fn read_lines<T: Tray>(tray: &mut T, k: u32, lost: u32, size: usize, work: &mut 
 // Finds a data column that alone is out, reading half of every other column. Row i of it then lies in the slot of row i if
 // the place is dark, else in the slot of the line through it. The block is scratch space.
 pub(crate) fn regain<T: Tray>(tray: &mut T, k: u32, column: u32, block: &mut [u8], work: &mut [u8])
-    requires { (Room k (length block.old) work.old) × (Alone k (length block.old) (T.Tray.meaning tray.old) column) }
+    requires room { Room k (length block.old) work.old }
+    requires alone { Alone k (length block.old) (T.Tray.meaning tray.old) column }
     ensures tray { T.Tray.meaning tray.new ≡ after_reads (T.Tray.meaning tray.old) (half_of k column) }
     ensures work { Found k (published k) (length block.old) column (held (T.Tray.meaning tray.old)) work.new }
 {
@@ -142,7 +159,8 @@ fn add_if<T: Tray>(
     scratch: &mut [u8],
     block: &mut [u8],
 )
-    requires { ((wanted ≡ true → Ready (T.Tray.meaning tray.old) column row.0 (length scratch.old))) × (length scratch.old ≡ length block.old) }
+    requires ready { wanted ≡ true → Ready (T.Tray.meaning tray.old) column row.0 (length scratch.old) }
+    requires scratch { length scratch.old ≡ length block.old }
     ensures tray { Calm (T.Tray.meaning tray.old) (T.Tray.meaning tray.new) }
     ensures block { BytesAdded (length block.old) block.old (λ b. only wanted (held (T.Tray.meaning tray.old) b row.0 column)) block.new }
 {
@@ -170,7 +188,10 @@ fn add_taken<T: Tray>(
     scratch: &mut [u8],
     block: &mut [u8],
 )
-    requires { (Alone k (length block.old) (T.Tray.meaning tray.old) lost) × ((length scratch.old ≡ length block.old) × ((row.0 < rows k) × (through < k))) }
+    requires alone { Alone k (length block.old) (T.Tray.meaning tray.old) lost }
+    requires scratch { length scratch.old ≡ length block.old }
+    requires row { row.0 < rows k }
+    requires through { through < k }
     ensures tray { Calm (T.Tray.meaning tray.old) (T.Tray.meaning tray.new) }
     ensures block { BytesAdded (length block.old) block.old (λ b. taken k (published k) (held (T.Tray.meaning tray.old) b) lost row.0 through) block.new }
 {
@@ -204,7 +225,10 @@ fn add_meeting<T: Tray>(
     scratch: &mut [u8],
     block: &mut [u8],
 )
-    requires { (Alone k (length block.old) (T.Tray.meaning tray.old) lost) × ((length scratch.old ≡ length block.old) × ((line.0 < rows k) × (through < k))) }
+    requires alone { Alone k (length block.old) (T.Tray.meaning tray.old) lost }
+    requires scratch { length scratch.old ≡ length block.old }
+    requires line { line.0 < rows k }
+    requires through { through < k }
     ensures tray { Calm (T.Tray.meaning tray.old) (T.Tray.meaning tray.new) }
     ensures block { BytesAdded (length block.old) block.old (λ b. only (not (through == lost)) (taken k (published k) (held (T.Tray.meaning tray.old) b) lost (meets line.0 through) through)) block.new }
 {
@@ -230,7 +254,9 @@ fn regain_by_line<T: Tray>(
     scratch: &mut [u8],
     block: &mut [u8],
 )
-    requires { (Alone k (length block.old) (T.Tray.meaning tray.old) lost) × ((length scratch.old ≡ length block.old) × (line.0 < rows k)) }
+    requires alone { Alone k (length block.old) (T.Tray.meaning tray.old) lost }
+    requires scratch { length scratch.old ≡ length block.old }
+    requires line { line.0 < rows k }
     ensures tray { Calm (T.Tray.meaning tray.old) (T.Tray.meaning tray.new) }
     ensures block { Bytes (length block.old) block.new (λ b. bit_xor (held (T.Tray.meaning tray.old) b line.0 (k + 1)) (others k lost (λ c. taken k (published k) (held (T.Tray.meaning tray.old) b) lost (meets line.0 c) c))) }
 {
@@ -249,7 +275,9 @@ fn regain_by_row<T: Tray>(
     scratch: &mut [u8],
     block: &mut [u8],
 )
-    requires { (Alone k (length block.old) (T.Tray.meaning tray.old) lost) × ((length scratch.old ≡ length block.old) × (row.0 < rows k)) }
+    requires alone { Alone k (length block.old) (T.Tray.meaning tray.old) lost }
+    requires scratch { length scratch.old ≡ length block.old }
+    requires row { row.0 < rows k }
     ensures tray { Calm (T.Tray.meaning tray.old) (T.Tray.meaning tray.new) }
     ensures block { Bytes (length block.old) block.new (λ b. by_row k (held (T.Tray.meaning tray.old) b) lost row.0) }
 {
@@ -268,7 +296,9 @@ pub(crate) fn regain_block<T: Tray>(
     scratch: &mut [u8],
     block: &mut [u8],
 )
-    requires { (Alone k (length block.old) (T.Tray.meaning tray.old) column) × ((length scratch.old ≡ length block.old) × (row.0 < rows k)) }
+    requires alone { Alone k (length block.old) (T.Tray.meaning tray.old) column }
+    requires scratch { length scratch.old ≡ length block.old }
+    requires row { row.0 < rows k }
     ensures tray { Calm (T.Tray.meaning tray.old) (T.Tray.meaning tray.new) }
     ensures block { Bytes (length block.old) block.new (λ b. regained k (published k) (held (T.Tray.meaning tray.old) b) column row.0) }
 {

@@ -49,7 +49,8 @@ pub(crate) fn fetch_slot<T: Tray>(
     slot: usize,
     size: usize,
 )
-    requires { (Ready (T.Tray.meaning tray.old) column row size) × ((slot + 1) * size ≤ length work.old) }
+    requires ready { Ready (T.Tray.meaning tray.old) column row size }
+    requires within { (slot + 1) * size ≤ length work.old }
     ensures tray { T.Tray.meaning tray.new ≡ tallied (T.Tray.meaning tray.old) column }
     ensures work { SlotSet size work.old slot (λ b. held (T.Tray.meaning tray.old) b row column) work.new }
 {

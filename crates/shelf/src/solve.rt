@@ -14,7 +14,8 @@ use code::widths::rows_of;
 
 // Adds what the row slots hold, as blocks of a data column, to the lines that hold them.
 pub(crate) fn spread(work: &mut [u8], k: u32, column: u32, block: &mut [u8])
-    requires { (Room k (length block.old) work.old) × (column < k) }
+    requires room { Room k (length block.old) work.old }
+    requires column { column < k }
     ensures { Spread k (published k) (length block.old) work.old column work.new }
 {
     for row in 0..rows_of(k) {
@@ -25,7 +26,9 @@ pub(crate) fn spread(work: &mut [u8], k: u32, column: u32, block: &mut [u8])
 
 // Settles a row of which all of lower rank are settled: its line has its block of column p, which goes off the other sums.
 fn settle(work: &mut [u8], k: u32, p: u32, q: u32, row: Row, block: &mut [u8])
-    requires { (Room k (length block.old) work.old) × ((row.0 < rows k) × (p < k)) }
+    requires room { Room k (length block.old) work.old }
+    requires row { row.0 < rows k }
+    requires p { p < k }
     ensures { Settled k (published k) (length block.old) p q row.0 work.old work.new }
 {
     copy_slot(work, line_slot(k, row.line(p)), block);
@@ -43,7 +46,9 @@ fn white(row: Row, column: u32) -> u32
 
 // The rank of a row: rows of lower rank are settled before it.
 fn rank_of(k: u32, p: u32, q: u32, row: Row) -> u32
-    requires { (is_width k ≡ true) × ((row.0 < rows k) × (Pair k (published k) p q)) }
+    requires width { is_width k ≡ true }
+    requires row { row.0 < rows k }
+    requires pair { Pair k (published k) p q }
     ensures { result ≡ rank k p q row.0 }
 {
     let others = row.whites() - white(row, p) - white(row, q);
@@ -52,7 +57,9 @@ fn rank_of(k: u32, p: u32, q: u32, row: Row) -> u32
 
 // Settles a row if it has this rank.
 fn settle_at(work: &mut [u8], k: u32, p: u32, q: u32, at: u32, row: Row, block: &mut [u8])
-    requires { (Room k (length block.old) work.old) × ((row.0 < rows k) × (Pair k (published k) p q)) }
+    requires room { Room k (length block.old) work.old }
+    requires row { row.0 < rows k }
+    requires pair { Pair k (published k) p q }
     ensures { (D : ℕ → Blocks) → Solving k (published k) (length block.old) p q D (before k p q at row.0) work.old → Solving k (published k) (length block.old) p q D (before k p q at (row.0 + 1)) work.new }
 {
     if rank_of(k, p, q, row) == at {
@@ -62,7 +69,8 @@ fn settle_at(work: &mut [u8], k: u32, p: u32, q: u32, at: u32, row: Row, block: 
 
 // Settles the rows of one rank.
 fn settle_rank(work: &mut [u8], k: u32, p: u32, q: u32, at: u32, block: &mut [u8])
-    requires { (Room k (length block.old) work.old) × (Pair k (published k) p q) }
+    requires room { Room k (length block.old) work.old }
+    requires pair { Pair k (published k) p q }
     ensures { (D : ℕ → Blocks) → Solving k (published k) (length block.old) p q D (before k p q at 0) work.old → Solving k (published k) (length block.old) p q D (before k p q (at + 1) 0) work.new }
 {
     for row in 0..rows_of(k) {
@@ -72,7 +80,8 @@ fn settle_rank(work: &mut [u8], k: u32, p: u32, q: u32, at: u32, block: &mut [u8
 
 // Settles all rows, by rising rank.
 pub(crate) fn solve(work: &mut [u8], k: u32, p: u32, q: u32, block: &mut [u8])
-    requires { (Room k (length block.old) work.old) × (Pair k (published k) p q) }
+    requires room { Room k (length block.old) work.old }
+    requires pair { Pair k (published k) p q }
     ensures { (D : ℕ → Blocks) → Solving k (published k) (length block.old) p q D (λ _. false) work.old → Solving k (published k) (length block.old) p q D (λ _. true) work.new }
 {
     for at in 0..2 * k + 2 {

@@ -36,7 +36,9 @@ fn add_through(
     through: u32,
     block: &[u8],
 )
-    requires { (Room k (length block.now) work.old) × ((row.0 < rows k) × (through < k)) }
+    requires room { Room k (length block.now) work.old }
+    requires row { row.0 < rows k }
+    requires through { through < k }
     ensures { Plus k (length block.now) work.old nothing (λ b n. only (n == meets row.0 through && passes (published k) row.0 column skip through) (slice_index block.now b)) work.new }
 {
     if is_passed(k, row, column, skip, through) {
@@ -46,7 +48,8 @@ fn add_through(
 
 // Adds a block of the place in `column` to every line that holds it, but for the one that meets the column `skip` in this row.
 pub(crate) fn add_to_lines(work: &mut [u8], k: u32, row: Row, column: u32, skip: u32, block: &[u8])
-    requires { (Room k (length block.now) work.old) × (row.0 < rows k) }
+    requires room { Room k (length block.now) work.old }
+    requires row { row.0 < rows k }
     ensures { Plus k (length block.now) work.old nothing (to_lines k (published k) row.0 column skip block.now) work.new }
 {
     for through in 0..k {
@@ -56,7 +59,9 @@ pub(crate) fn add_to_lines(work: &mut [u8], k: u32, row: Row, column: u32, skip:
 
 // Adds a block of the place in `column` to the sum of its row, and to those of the lines that hold it.
 pub(crate) fn add_place(work: &mut [u8], k: u32, row: Row, column: u32, block: &[u8])
-    requires { (Room k (length block.now) work.old) × ((row.0 < rows k) × (column < k)) }
+    requires room { Room k (length block.now) work.old }
+    requires row { row.0 < rows k }
+    requires column { column < k }
     ensures { Summed k (published k) (length block.now) work.old (one row.0 column block.now) work.new }
 {
     add(work, row.0 as usize, block);

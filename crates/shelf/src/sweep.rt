@@ -59,7 +59,8 @@ impl Parity {
 
 // The first parity place, column k by rows and then column k + 1 by lines, that does not hold what its slot does.
 fn first_misfit<T: Tray>(tray: &mut T, k: u32, block: &mut [u8], work: &[u8]) -> Option<(u32, u32)>
-    requires { (Room k (length block.old) work.now) × (Heard k (length block.old) (is_out Missing.Nothing) (T.Tray.meaning tray.old)) }
+    requires room { Room k (length block.old) work.now }
+    requires heard { Heard k (length block.old) (is_out Missing.Nothing) (T.Tray.meaning tray.old) }
     ensures tray { Calm (T.Tray.meaning tray.old) (T.Tray.meaning tray.new) }
     ensures found { Compared k (length block.old) (T.Tray.meaning tray.old) work.now result }
 {
@@ -81,7 +82,8 @@ fn first_misfit<T: Tray>(tray: &mut T, k: u32, block: &mut [u8], work: &[u8]) ->
 
 // Compares both parities with the data, on a tray whose columns all answer. The block is scratch space.
 fn compare<T: Tray>(tray: &mut T, k: u32, block: &mut [u8], work: &mut [u8]) -> Option<(u32, u32)>
-    requires { (Room k (length block.old) work.old) × (Heard k (length block.old) (is_out Missing.Nothing) (T.Tray.meaning tray.old)) }
+    requires room { Room k (length block.old) work.old }
+    requires heard { Heard k (length block.old) (is_out Missing.Nothing) (T.Tray.meaning tray.old) }
     ensures tray { Calm (T.Tray.meaning tray.old) (T.Tray.meaning tray.new) }
     ensures found { Finding k (published k) (length block.old) (T.Tray.meaning tray.old) result }
 {

@@ -7,8 +7,8 @@ loop-row-init c = filled_none c.args.size c.args.work.now c.args.first (λ _ _. 
 
 pub clear_slot-requires : goal.clear_slot-requires
 clear_slot-requires c =
-    let e = rows_are c.args.k _ _ c.requires.0 _ c.rows_of-row-end.ensures in
-    has_slot c.args.k c.args.size c.loop-row.work (room_kept _ _ _ _ c.requires.0 c.loop-row.auto.work) (c.args.first + c.loop-row.row) (omega arith)
+    let e = rows_are c.args.k _ _ c.requires.room _ c.rows_of-row-end.ensures in
+    has_slot c.args.k c.args.size c.loop-row.work (room_kept _ _ _ _ c.requires.room c.loop-row.auto.work) (c.args.first + c.loop-row.row) (omega arith)
 
 pub loop-row-preserved : goal.loop-row-preserved
 loop-row-preserved c = filled_more c.args.size c.args.work.now c.args.first c.loop-row.row (λ _ _. 0) c.loop-row.work _ c.loop-row.invariant c.clear_slot.ensures

@@ -12,10 +12,7 @@ loop-row-init g c =
 
 pub fetch_slot-requires : goal.fetch_slot-requires
 fetch_slot-requires g c =
-    let e = rows_are c.args.k _ _ c.requires.0 _ c.rows_of-row-end.ensures in (
-      ready_still c.args.k c.args.size _ _ _ c.args.column c.loop-row.row c.loop-row.invariant.0 c.requires.1.0 (omega arith),
-      has_slot c.args.k c.args.size c.loop-row.work (room_kept _ _ _ _ c.requires.0 c.loop-row.auto.work) (c.args.first + c.loop-row.row) (omega arith),
-    )
+    let e = rows_are c.args.k _ _ c.requires.room _ c.rows_of-row-end.ensures in record { ready = ready_still c.args.k c.args.size _ _ _ c.args.column c.loop-row.row c.loop-row.invariant.0 c.requires.answers (omega arith); within = has_slot c.args.k c.args.size c.loop-row.work (room_kept _ _ _ _ c.requires.room c.loop-row.auto.work) (c.args.first + c.loop-row.row) (omega arith) }
 
 pub loop-row-preserved : goal.loop-row-preserved
 loop-row-preserved g c =

@@ -8,10 +8,10 @@ use Rattle.shelf.proofs.hand.hand_solved.Goals as goal
 pub copy_slot-requires : goal.copy_slot-requires
 copy_slot-requires g c =
     has_slot_for c.args.k (length c.args.block.now) (length c.recover-by.new.block) c.recover-by.new.work
-    (room_kept _ _ c.args.work.now _ c.requires.0.room (omega arith)) (omega arith) c.slot_for.result c.slot_for.ensures.within
+    (room_kept _ _ c.args.work.now _ c.requires.reach.room (omega arith)) (omega arith) c.slot_for.result c.slot_for.ensures.within
 
 pub recover-by-requires : goal.recover-by-requires
-recover-by-requires g c = (c.requires.0.room, (c.requires.0.heard, (c.requires.0.columns, not_sole c.args.k c.args.out c.requires.1.1)))
+recover-by-requires g c = record { room = c.requires.reach.room; heard = c.requires.reach.heard; columns = c.requires.reach.columns; several = not_sole c.args.k c.args.out c.requires.full }
 
 pub returns : goal.returns
 returns g c =
@@ -21,8 +21,8 @@ returns g c =
     let long : length c.recover-by.new.block ≡ size = omega arith in
     record {
       at_hand =
-          solved_hand k (published k) (law_of_width k c.requires.0.room.width) size c.args.out m c.args.column c.args.row.0 c.args.work.now c.requires.0
-          c.requires.1.0 c.requires.1.1 c.recover-by.result c.slot_for.result c.recover-by.new.work c.copy_slot.new.block
+          solved_hand k (published k) (law_of_width k c.requires.reach.room.width) size c.args.out m c.args.column c.args.row.0 c.args.work.now c.requires.reach
+          c.requires.missing c.requires.full c.recover-by.result c.slot_for.result c.recover-by.new.work c.copy_slot.new.block
           c.recover-by.ensures.work c.slot_for.ensures.value (omega arith)
           (rw long at c.copy_slot.ensures);
       calm = calm_reads m _ _ c.recover-by.ensures.tray;

@@ -12,13 +12,7 @@ loop-through-init g c =
 
 pub add_to_line-requires : goal.add_to_line-requires
 add_to_line-requires g c =
-    let k = c.args.k in (
-      c.requires.0,
-      (
-        answers_still k (length c.args.block.now) (k + 1) (g.T.Tray.meaning c.args.tray.now) (g.T.Tray.meaning c.loop-through.tray) c.loop-through.invariant.frame c.requires.1.0,
-        (c.requires.1.1.0, (c.loop-through-test.true, c.loop-through.auto.scratch ∙ c.requires.1.1.1)),
-      ),
-    )
+    let k = c.args.k in record { width = c.requires.width; answers = answers_still k (length c.args.block.now) (k + 1) (g.T.Tray.meaning c.args.tray.now) (g.T.Tray.meaning c.loop-through.tray) c.loop-through.invariant.frame c.requires.answers; row = c.requires.row; through = c.loop-through-test.true; scratch = c.loop-through.auto.scratch ∙ c.requires.scratch }
 
 pub loop-through-preserved : goal.loop-through-preserved
 loop-through-preserved g c =

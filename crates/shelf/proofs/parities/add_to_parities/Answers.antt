@@ -8,7 +8,7 @@ use Rattle.shelf.proofs.Changing.{added_none, added_same, added_added, served_in
 use Rattle.shelf.proofs.parities.add_to_parities.Goals as goal
 
 pub overflow_add-k : goal.overflow_add-k
-overflow_add-k g c = let w = a_width c.args.k c.requires.0 in omega arith
+overflow_add-k g c = let w = a_width c.args.k c.requires.width in omega arith
 
 pub add_to_lines-requires : goal.add_to_lines-requires
 add_to_lines-requires g c =
@@ -17,8 +17,8 @@ add_to_lines-requires g c =
     let size = length c.args.block.now in
     let m' = g.T.Tray.meaning c.add_to_sum.new.tray in
     let o : out (k + 1) ≡ false = sym c.is_out.ensures ∙ c.if-not-is_out.true in
-    let heard = heard_still k size out (g.T.Tray.meaning c.args.tray.now) m' c.add_to_sum.ensures.frame c.requires.1.0 in
-    (c.requires.0, (heard_answers k size out m' (k + 1) heard (omega arith) o, (c.requires.1.1.0, omega arith)))
+    let heard = heard_still k size out (g.T.Tray.meaning c.args.tray.now) m' c.add_to_sum.ensures.frame c.requires.heard in
+    record { width = c.requires.width; answers = heard_answers k size out m' (k + 1) heard (omega arith) o; row = c.requires.row; scratch = omega arith }
 
 pub returns-then-not-is_out : goal.returns-then-not-is_out
 returns-then-not-is_out g c =

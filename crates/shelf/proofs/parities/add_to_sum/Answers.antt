@@ -11,7 +11,7 @@ add_at-requires g c =
     let m = g.T.Tray.meaning c.args.tray.now in
     let size = length c.args.block.now in
     let o : out k ≡ false = sym c.is_out.ensures ∙ c.if-not-is_out.true in
-    (answers_ready k size m k c.args.row.0 (heard_answers k size out m k c.requires.0 (omega arith) o) c.requires.1.0, c.requires.1.1)
+    record { ready = answers_ready k size m k c.args.row.0 (heard_answers k size out m k c.requires.heard (omega arith) o) c.requires.row; scratch = c.requires.scratch }
 
 pub returns-then-not-is_out : goal.returns-then-not-is_out
 returns-then-not-is_out g c =

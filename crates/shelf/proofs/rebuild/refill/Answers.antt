@@ -21,16 +21,10 @@ write_column-requires g c =
     let work = c.locate-found.new.work in
     let j = c.args.column in
     let found = c.locate-found.result in
-    let width = c.requires.0.width in
-    let cols = c.requires.1.1.1.0 in
-    let o = c.requires.1.1.1.1 in
-    let same = sym c.locate-found.auto.block in (
-      subst (λ (n : ℕ). Room k n work) same (room_kept k size c.args.work.now work c.requires.0 c.locate-found.auto.work),
-      (
-        subst (λ (n : ℕ). Answers k n m₁ j) same (located_answers k size width out cols m m₁ work j o c.requires.1.0 c.requires.1.1.0 found c.locate-found.ensures),
-        located_data k size width out cols m m₁ work j o found c.locate-found.ensures,
-      ),
-    )
+    let width = c.requires.room.width in
+    let cols = c.requires.columns in
+    let o = c.requires.missing in
+    let same = sym c.locate-found.auto.block in record { room = subst (λ (n : ℕ). Room k n work) same (room_kept k size c.args.work.now work c.requires.room c.locate-found.auto.work); answers = subst (λ (n : ℕ). Answers k n m₁ j) same (located_answers k size width out cols m m₁ work j o c.requires.heard c.requires.answers found c.locate-found.ensures); column = located_data k size width out cols m m₁ work j o found c.locate-found.ensures }
 
 pub returns : goal.returns
 returns g c =
@@ -43,12 +37,12 @@ returns g c =
     let work = c.locate-found.new.work in
     let j = c.args.column in
     let found = c.locate-found.result in
-    let width = c.requires.0.width in
-    let cols = c.requires.1.1.1.0 in
-    let o = c.requires.1.1.1.1 in
+    let width = c.requires.room.width in
+    let cols = c.requires.columns in
+    let o = c.requires.missing in
     let done =
-    refilled k size width out cols m m₁ work j o c.requires.1.0 (g.T.Tray.sized c.args.tray.now)
-    (room_kept k size c.args.work.now work c.requires.0 c.locate-found.auto.work) m' found c.locate-found.ensures
+    refilled k size width out cols m m₁ work j o c.requires.heard (g.T.Tray.sized c.args.tray.now)
+    (room_kept k size c.args.work.now work c.requires.room c.locate-found.auto.work) m' found c.locate-found.ensures
     (subst (λ (n : ℕ). m' ≡ written m₁ j (rows k) (λ i. slot_block n work (slot_of k found j i))) c.locate-found.auto.block c.write_column.ensures) in
     record {
       count = c.reads.ensures ∙ located_count k size width out cols m m₁ work j o found c.locate-found.ensures;

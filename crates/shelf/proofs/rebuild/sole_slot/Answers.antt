@@ -9,9 +9,9 @@ returns-else-is_dark c =
     let k = c.args.k in
     let j = c.args.column in
     let i = c.args.row.0 in
-    let w = a_width k c.requires.0 in
+    let w = a_width k c.requires.width in
     let e = c.line.ensures.within (omega arith) in
-    let l = meets_lt k i j c.requires.1.1 c.requires.1.0 in
+    let l = meets_lt k i j c.requires.row c.requires.column in
     let white : dark i j ≡ false = sym c.is_dark.ensures ∙ c.if-is_dark.false in
     record {
       value = c.line_slot.ensures ∙ ap (λ n. rows k + n) e ∙ ap (λ t. cond t i (rows k + meets i j)) (sym white);

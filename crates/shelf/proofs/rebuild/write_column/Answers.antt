@@ -12,11 +12,11 @@ loop-row-init g c =
 
 pub place_slot-requires : goal.place_slot-requires
 place_slot-requires g c =
-    let e = rows_are c.args.k _ _ c.requires.0 _ c.rows_of-row-end.ensures in (
-      ready_still _ _ _ _ _ _ c.loop-row.invariant
-          (answers_ready c.args.k c.args.size (g.T.Tray.meaning c.args.tray.now) c.args.column c.requires.1.0 c.loop-row.row (omega arith)),
-      has_slot c.args.k c.args.size c.args.work.now c.requires.0 c.slot.result c.slot.ensures.within,
-    )
+    let e = rows_are c.args.k _ _ c.requires.room _ c.rows_of-row-end.ensures in record {
+      ready = ready_still _ _ _ _ _ _ c.loop-row.invariant
+          (answers_ready c.args.k c.args.size (g.T.Tray.meaning c.args.tray.now) c.args.column c.requires.answers c.loop-row.row (omega arith));
+      within = has_slot c.args.k c.args.size c.args.work.now c.requires.room c.slot.result c.slot.ensures.within;
+    }
 
 pub loop-row-preserved : goal.loop-row-preserved
 loop-row-preserved g c =

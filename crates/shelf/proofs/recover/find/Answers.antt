@@ -10,6 +10,6 @@ pub returns-in-One : goal.returns-in-One
 returns-in-One c =
     let k = c.args.k in
     let a = c.in-One.field-0 in
-    let high = false-ltb a k (sym (ap (is_sole_data k) (sym c.in-One.is) ∙ c.requires.1.1)) in
+    let high = false-ltb a k (sym (ap (is_sole_data k) (sym c.in-One.is) ∙ c.requires.several)) in
     found_parities k (published k) (length c.args.block.now) c.args.out
     (λ x o. omega (arith, eqb-true a x (ap (λ m. is_out m x) (sym c.in-One.is) ∙ o))) c.args.work.now

@@ -8,22 +8,22 @@ use Rattle.shelf.proofs.recover.find_data.Goals as goal
 pub solve-requires-else-is_right : goal.solve-requires-else-is_right
 solve-requires-else-is_right c =
     let k = c.args.k in
-    let law = law_of_width k c.requires.0.width in (
-      room_kept_for _ _ _ _ _ c.requires.0 (omega arith) (omega arith),
-      record {
-        first = c.requires.1.1.0;
+    let law = law_of_width k c.requires.room.width in record {
+      room = room_kept_for _ _ _ _ _ c.requires.room (omega arith) (omega arith);
+      pair = record {
+        first = c.requires.b;
         second = omega arith;
-        apart = λ e. c.requires.1.1.1 (sym e);
-        neighbour = λ _. law.one_way c.args.a c.args.b c.requires.1.0 c.requires.1.1.0 c.requires.1.1.1 ∙ ap not (sym c.is_right.ensures ∙ c.if-is_right.false);
-      },
-    )
+        apart = λ e. c.requires.apart (sym e);
+        neighbour = λ _. law.one_way c.args.a c.args.b c.requires.a c.requires.b c.requires.apart ∙ ap not (sym c.is_right.ensures ∙ c.if-is_right.false);
+      };
+    }
 
 pub returns-then-is_right : goal.returns-then-is_right
 returns-then-is_right c =
     let k = c.args.k in
     let a = c.args.a in
     let b = c.args.b in
-    found_two k (published k) (length c.args.block.now) a b a b c.requires.1.0 c.requires.1.1.0 c.requires.1.0 c.requires.1.1.0 c.requires.1.1.1 (which_of k a b) (out_first k a b) (out_second k a b)
+    found_two k (published k) (length c.args.block.now) a b a b c.requires.a c.requires.b c.requires.a c.requires.b c.requires.apart (which_of k a b) (out_first k a b) (out_second k a b)
     c.args.work.now c.spread.new.work c.solve.new.work c.spread.ensures (length c.spread.new.block) (omega arith) c.solve.ensures
 
 pub returns-else-is_right : goal.returns-else-is_right
@@ -31,5 +31,5 @@ returns-else-is_right c =
     let k = c.args.k in
     let a = c.args.a in
     let b = c.args.b in
-    found_two k (published k) (length c.args.block.now) a b b a c.requires.1.0 c.requires.1.1.0 c.requires.1.1.0 c.requires.1.0 (λ e. c.requires.1.1.1 (sym e)) (which_back k a b) (out_second k a b) (out_first k a b)
+    found_two k (published k) (length c.args.block.now) a b b a c.requires.a c.requires.b c.requires.b c.requires.a (λ e. c.requires.apart (sym e)) (which_back k a b) (out_second k a b) (out_first k a b)
     c.args.work.now c.spread-else-is_right.new.work c.solve-else-is_right.new.work c.spread-else-is_right.ensures (length c.spread-else-is_right.new.block) (omega arith) c.solve-else-is_right.ensures

@@ -9,10 +9,10 @@ returns-then-column-by c = record { value = sym (by_rows c.args.k c.args.by c.ar
 
 pub returns-then-column-k : goal.returns-then-column-k
 returns-then-column-k c =
-    let w = a_width c.args.k c.requires.0 in
-    let r = rows_of_width c.args.k c.requires.0 c.rows_of.result c.rows_of.ensures in
+    let w = a_width c.args.k c.requires.width in
+    let r = rows_of_width c.args.k c.requires.width c.rows_of.result c.rows_of.ensures in
     let e = c.line.ensures.within (omega arith) in
-    let l = meets_lt c.args.k c.args.row.0 c.args.column c.requires.1 c.if-column-k.true in
+    let l = meets_lt c.args.k c.args.row.0 c.args.column c.requires.row c.if-column-k.true in
     record {
       value = ap₂ (λ x y. x + y) r e ∙ sym (by_line c.args.k c.args.by c.args.column c.args.row.0 c.if-column-by.false c.if-column-k.true);
       within = omega arith;
@@ -20,7 +20,7 @@ returns-then-column-k c =
 
 pub returns-else-column-k : goal.returns-else-column-k
 returns-else-column-k c =
-    let r = rows_of_width c.args.k c.requires.0 c.rows_of-else-column-k.result c.rows_of-else-column-k.ensures in
+    let r = rows_of_width c.args.k c.requires.width c.rows_of-else-column-k.result c.rows_of-else-column-k.ensures in
     record {
       value = ap (λ x. x + c.args.row.0) r ∙ sym (by_number c.args.k c.args.by c.args.column c.args.row.0 c.if-column-by.false c.if-column-k.false);
       within = omega arith;

@@ -15,11 +15,11 @@ pub add_taken-requires : goal.add_taken-requires
 add_taken-requires g c =
     let k = c.args.k in
     let t = c.args.through in
-    let w = a_width k c.requires.0.width in
+    let w = a_width k c.requires.alone.width in
     let e : c.meeting.result.0 ≡ meets c.args.line.0 t = c.meeting.ensures.within (omega arith) in
-    let l = meets_lt k c.args.line.0 t c.requires.1.1.0 c.requires.1.1.1 in
+    let l = meets_lt k c.args.line.0 t c.requires.line c.requires.through in
     let l' : c.meeting.result.0 < rows k = omega arith in
-    (c.requires.0, (c.requires.1.0, (l', c.requires.1.1.1)))
+    record { alone = c.requires.alone; scratch = c.requires.scratch; row = l'; through = c.requires.through }
 
 pub returns-then-through-lost : goal.returns-then-through-lost
 returns-then-through-lost g c =
@@ -28,7 +28,7 @@ returns-then-through-lost g c =
     let j = c.args.lost in
     let n = c.args.line.0 in
     let t = c.args.through in
-    let w = a_width k c.requires.0.width in
+    let w = a_width k c.requires.alone.width in
     let e : c.meeting.result.0 ≡ meets n t = c.meeting.ensures.within (omega arith) in
     let ne : t ≢ j = omega arith in
     record {

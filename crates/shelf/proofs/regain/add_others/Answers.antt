@@ -12,13 +12,7 @@ loop-column-init g c =
     )
 
 pub add_other-requires : goal.add_other-requires
-add_other-requires g c = (
-  room_still _ _ _ _ _ c.loop-column.auto.block c.loop-column.auto.work c.requires.0,
-  (
-    alone_reads _ _ _ _ _ _ (once_below c.args.lost c.loop-column.column) c.loop-column.auto.block c.loop-column.invariant.0 c.requires.1.0,
-    (c.requires.1.1, c.loop-column-test.true),
-  ),
-)
+add_other-requires g c = record { room = room_still _ _ _ _ _ c.loop-column.auto.block c.loop-column.auto.work c.requires.room; alone = alone_reads _ _ _ _ _ _ (once_below c.args.lost c.loop-column.column) c.loop-column.auto.block c.loop-column.invariant.0 c.requires.alone; row = c.requires.row; column = c.loop-column-test.true }
 
 pub loop-column-preserved : goal.loop-column-preserved
 loop-column-preserved g c =

@@ -13,8 +13,8 @@ use Rattle.shelf.proofs.regain.add_taken.Goals as goal
 pub add_if-requires : goal.add_if-requires
 add_if-requires g c =
     let k = c.args.k in
-    let jk = c.requires.0.column in
-    (λ _. may_read k _ _ c.args.lost c.requires.0 k c.args.row.0 _ (omega arith) (omega arith) c.requires.1.1.0 c.requires.1.0, c.requires.1.0)
+    let jk = c.requires.alone.column in
+    record { ready = λ _. may_read k _ _ c.args.lost c.requires.alone k c.args.row.0 _ (omega arith) (omega arith) c.requires.row c.requires.scratch; scratch = c.requires.scratch }
 
 pub loop-column-init : goal.loop-column-init
 unfolding xorsum
@@ -31,7 +31,7 @@ add_if-requires-in-loop-column g c =
     let j = c.args.lost in
     let t = c.loop-column.column in
     let calm : Calm m m' = calm_then m _ m' c.add_if.ensures.tray c.loop-column.invariant.0 in
-    (λ w. may_read_calm k _ m m' j calm c.requires.0 t i _ (omega arith) (wants_other (published k) i c.args.through j t (sym c.is_wanted.ensures ∙ w)) c.requires.1.1.0 (omega arith), omega arith)
+    record { ready = λ w. may_read_calm k _ m m' j calm c.requires.alone t i _ (omega arith) (wants_other (published k) i c.args.through j t (sym c.is_wanted.ensures ∙ w)) c.requires.row (omega arith); scratch = omega arith }
 
 pub loop-column-preserved : goal.loop-column-preserved
 loop-column-preserved g c =
@@ -68,7 +68,7 @@ returns g c =
       block = bytes_more (length was) was (λ b. only c.is_taken.result (held m b i k)) (λ b. xorsum k (λ c'. only (wants right i t j c') (held m b i c'))) (λ b. taken k right (held m b) j i t)
           c.add_if.new.block c.loop-column.block
           (λ b. ap (λ w. bit_xor (only w (held m b i k)) (xorsum k (λ c'. only (wants right i t j c') (held m b i c')))) c.is_taken.ensures
-          ∙ taken_wanted k right (law_of_width k c.requires.0.width) i t c.requires.1.1.1 (held m b) j c.requires.0.column)
+          ∙ taken_wanted k right (law_of_width k c.requires.alone.width) i t c.requires.through (held m b) j c.requires.alone.column)
           c.add_if.ensures.block
           (bytes_calm (λ h b. xorsum k (λ c'. only (wants right i t j c') (h b i c'))) m m' (length c.add_if.new.block) (length was) c.add_if.new.block c.loop-column.block calm e'
           (rw e at c.loop-column.invariant.1));

@@ -20,14 +20,8 @@ read_if_white-requires g c =
     let k = c.args.k in
     let j = c.args.lost in
     let n = c.loop-row.row in
-    let e = rows_are k _ _ c.requires.0 _ c.rows_of-row-end.ensures in
-    let l : n < rows k = omega arith in (
-      room_still _ _ _ _ _ refl c.loop-row.auto.work c.requires.0,
-      (
-        alone_reads _ _ _ _ _ _ (times (k + 1) (n - count n (λ i. dark i j))) refl c.loop-row.invariant.0 c.requires.1,
-        (l, subst (λ x. LinesRead k c.args.size j (held x) n c.loop-row.work) (sym c.loop-row.invariant.0) c.loop-row.invariant.1),
-      ),
-    )
+    let e = rows_are k _ _ c.requires.room _ c.rows_of-row-end.ensures in
+    let l : n < rows k = omega arith in record { room = room_still _ _ _ _ _ refl c.loop-row.auto.work c.requires.room; alone = alone_reads _ _ _ _ _ _ (times (k + 1) (n - count n (λ i. dark i j))) refl c.loop-row.invariant.0 c.requires.alone; row = l; lines = subst (λ x. LinesRead k c.args.size j (held x) n c.loop-row.work) (sym c.loop-row.invariant.0) c.loop-row.invariant.1 }
 
 pub loop-row-preserved : goal.loop-row-preserved
 loop-row-preserved g c =
@@ -42,7 +36,7 @@ loop-row-preserved g c =
 pub returns : goal.returns
 returns g c =
     let k = c.args.k in
-    let e = rows_are k _ _ c.requires.0 _ c.rows_of-row-end.ensures in
+    let e = rows_are k _ _ c.requires.room _ c.rows_of-row-end.ensures in
     let h : c.loop-row.row ≡ rows k = omega arith in
     let i = rw h at c.loop-row.invariant in
     record { tray = i.0; work = i.1 }

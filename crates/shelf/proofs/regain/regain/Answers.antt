@@ -16,8 +16,8 @@ returns g c =
     let k = c.args.k in
     let j = c.args.column in
     let size = length c.args.block.now in
-    let w = a_width k c.requires.0.width in
-    let jk = c.requires.1.column in
+    let w = a_width k c.requires.room.width in
+    let jk = c.requires.alone.column in
     let e = c.read_lines.ensures.tray in
     record {
       tray = reads_after m _ _ (times (k + 1) (rows k - count (rows k) (λ i. dark i j))) _ _ e c.regain_rows.ensures.tray (half_read k j (omega arith) jk);

@@ -13,12 +13,12 @@ pub regain_by_line-requires : goal.regain_by_line-requires
 regain_by_line-requires g c =
     let k = c.args.k in
     let j = c.args.column in
-    let w = a_width k c.requires.0.width in
-    let jk = c.requires.0.column in
+    let w = a_width k c.requires.alone.width in
+    let jk = c.requires.alone.column in
     let e : c.line.result.0 ≡ meets c.args.row.0 j = c.line.ensures.within (omega arith) in
-    let l = meets_lt k c.args.row.0 j c.requires.1.1 jk in
+    let l = meets_lt k c.args.row.0 j c.requires.row jk in
     let l' : c.line.result.0 < rows k = omega arith in
-    (c.requires.0, (c.requires.1.0, l'))
+    record { alone = c.requires.alone; scratch = c.requires.scratch; line = l' }
 
 pub returns-then-is_dark : goal.returns-then-is_dark
 unfolding regained
@@ -43,8 +43,8 @@ returns-else-is_dark g c =
     let right = published k in
     let i = c.args.row.0 in
     let j = c.args.column in
-    let w = a_width k c.requires.0.width in
-    let jk = c.requires.0.column in
+    let w = a_width k c.requires.alone.width in
+    let jk = c.requires.alone.column in
     let e : c.line.result.0 ≡ meets i j = c.line.ensures.within (omega arith) in
     record {
       tray = c.regain_by_line.ensures.tray;

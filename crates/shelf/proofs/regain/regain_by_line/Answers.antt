@@ -12,13 +12,13 @@ use Rattle.shelf.proofs.OneBlock.{calm_refl, calm_read, calm_then, calm_held, al
 use Rattle.shelf.proofs.regain.regain_by_line.Goals as goal
 
 pub overflow_add-k : goal.overflow_add-k
-overflow_add-k g c = let w = a_width c.args.k c.requires.0.width in search rules
+overflow_add-k g c = let w = a_width c.args.k c.requires.alone.width in search rules
 
 pub fetch-requires : goal.fetch-requires
 fetch-requires g c =
     let k = c.args.k in
-    let jk = c.requires.0.column in
-    may_read k _ _ c.args.lost c.requires.0 (k + 1) c.args.line.0 _ (omega arith) (omega arith) c.requires.1.1 refl
+    let jk = c.requires.alone.column in
+    may_read k _ _ c.args.lost c.requires.alone (k + 1) c.args.line.0 _ (omega arith) (omega arith) c.requires.line refl
 
 pub add_meeting-requires : goal.add_meeting-requires
 add_meeting-requires g c =
@@ -27,7 +27,7 @@ add_meeting-requires g c =
     let k = c.args.k in
     let calm : Calm m m' = calm_then m _ m' (calm_read m _ (k + 1) c.fetch.ensures.tray) c.loop-through.invariant.0 in
     let e : length c.loop-through.scratch ≡ length c.loop-through.block = omega arith in
-    (alone_calm k _ _ m m' c.args.lost (omega arith) calm c.requires.0, (e, (c.requires.1.1, c.loop-through-test.true)))
+    record { alone = alone_calm k _ _ m m' c.args.lost (omega arith) calm c.requires.alone; scratch = e; line = c.requires.line; through = c.loop-through-test.true }
 
 pub loop-through-init : goal.loop-through-init
 unfolding others xorsum

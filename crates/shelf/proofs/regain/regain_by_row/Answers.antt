@@ -10,8 +10,8 @@ use Rattle.shelf.proofs.regain.regain_by_row.Goals as goal
 pub fetch-requires : goal.fetch-requires
 fetch-requires g c =
     let k = c.args.k in
-    let jk = c.requires.0.column in
-    may_read k _ _ c.args.lost c.requires.0 k c.args.row.0 _ (omega arith) (omega arith) c.requires.1.1 refl
+    let jk = c.requires.alone.column in
+    may_read k _ _ c.args.lost c.requires.alone k c.args.row.0 _ (omega arith) (omega arith) c.requires.row refl
 
 pub add_if-requires : goal.add_if-requires
 add_if-requires g c =
@@ -21,7 +21,7 @@ add_if-requires g c =
     let j = c.args.lost in
     let t = c.loop-column.column in
     let calm : Calm m m' = calm_then m _ m' (calm_read m _ k c.fetch.ensures.tray) c.loop-column.invariant.0 in
-    (λ w. may_read_calm k _ m m' j calm c.requires.0 t c.args.row.0 _ (omega arith) (is_other t j w) c.requires.1.1 (omega arith), omega arith)
+    record { ready = λ w. may_read_calm k _ m m' j calm c.requires.alone t c.args.row.0 _ (omega arith) (is_other t j w) c.requires.row (omega arith); scratch = omega arith }
 
 pub loop-column-init : goal.loop-column-init
 unfolding others xorsum

@@ -14,8 +14,8 @@ returns-then-is_dark g c =
     let d = c.if-is_dark.ensures in
     record {
       tray = c.regain_row.ensures.tray ∙ ap (λ b. after_reads m (of_rows k j (cond b 1 0))) d;
-      work = on_dark k (published k) (length c.args.block.now) j (held m) c.args.row.0 c.requires.1.0.column c.requires.1.1.0 c.args.work.now c.regain_row.new.work (sym d)
-          c.requires.1.1.1 c.regain_row.ensures.work;
+      work = on_dark k (published k) (length c.args.block.now) j (held m) c.args.row.0 c.requires.alone.column c.requires.row c.args.work.now c.regain_row.new.work (sym d)
+          c.requires.halfway c.regain_row.ensures.work;
     }
 
 pub returns-else-is_dark : goal.returns-else-is_dark
@@ -26,5 +26,5 @@ returns-else-is_dark g c =
     let d = c.if-is_dark.ensures in
     record {
       tray = rows_none k j m (g.T.Tray.wraps c.args.tray.now) ∙ ap (λ b. after_reads m (of_rows k j (cond b 1 0))) d;
-      work = on_white k (published k) (length c.args.block.now) j (held m) c.args.row.0 c.requires.1.0.column c.requires.1.1.0 c.args.work.now (sym d) c.requires.1.1.1;
+      work = on_white k (published k) (length c.args.block.now) j (held m) c.args.row.0 c.requires.alone.column c.requires.row c.args.work.now (sym d) c.requires.halfway;
     }

@@ -15,15 +15,15 @@ pub fetch_slot-requires : goal.fetch_slot-requires
 fetch_slot-requires g c =
     let k = c.args.k in
     let i = c.args.row.0 in
-    let jk = c.requires.1.0.column in
-    (may_read k _ _ c.args.lost c.requires.1.0 k i _ (omega arith) (omega arith) c.requires.1.1 refl, has_slot k _ _ c.requires.0 i (omega arith))
+    let jk = c.requires.alone.column in
+    record { ready = may_read k _ _ c.args.lost c.requires.alone k i _ (omega arith) (omega arith) c.requires.row refl; within = has_slot k _ _ c.requires.room i (omega arith) }
 
 pub copy_slot-requires : goal.copy_slot-requires
 copy_slot-requires g c =
     let k = c.args.k in
     let i = c.args.row.0 in
     has_slot k (length c.add_others.new.block) c.add_others.new.work
-    (room_still k (length c.args.block.now) _ c.args.work.now _ (omega arith) (omega arith) c.requires.0) i (omega arith)
+    (room_still k (length c.args.block.now) _ c.args.work.now _ (omega arith) (omega arith) c.requires.room) i (omega arith)
 
 pub returns : goal.returns
 returns g c =
@@ -38,13 +38,13 @@ returns g c =
     let w₁ = c.fetch_slot.new.work in
     let w₂ = c.add_others.new.work in
     let w₃ = c.add_to_lines.new.work in
-    let jk = c.requires.1.0.column in
+    let jk = c.requires.alone.column in
     let e = c.fetch_slot.ensures.tray ∙ read_one m k (g.T.Tray.wraps c.args.tray.now) in
     let h : length c.add_others.new.block ≡ size = omega arith in
     let h' : length x ≡ size = omega arith in
     record {
       tray = reads_after m m' _ (times k 1) (once_below j k) _ e c.add_others.ensures.tray (λ c'. row_reads k j c' jk);
-      work = row_found k right (law_of_width k c.requires.0.width) size m i j jk c.requires.1.1 c.args.work.now w₁ w₂ w₃ x c.fetch_slot.ensures.work
+      work = row_found k right (law_of_width k c.requires.room.width) size m i j jk c.requires.row c.args.work.now w₁ w₂ w₃ x c.fetch_slot.ensures.work
           (subst (λ y. Plus k size w₁ (λ b r. only (eqb r i) (others k j (held y b i))) (λ b. lines_but k right i j (row_of i (below j k (held y b)))) w₂) e c.add_others.ensures.work)
           (subst (λ s. IsSlot s w₂ i x) h c.copy_slot.ensures)
           (subst (λ s. Plus k s w₂ nothing (to_lines k right i j j x) w₃) h' c.add_to_lines.ensures);

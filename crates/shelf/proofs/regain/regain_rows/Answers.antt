@@ -14,7 +14,7 @@ unfolding count
 loop-row-init g c =
     let m = g.T.Tray.meaning c.args.tray.now in (
       rows_none c.args.k c.args.lost m (g.T.Tray.wraps c.args.tray.now),
-      halfway_none c.args.k (published c.args.k) (length c.args.block.now) c.args.lost (held m) c.requires.1.0.column c.args.work.now c.requires.1.1,
+      halfway_none c.args.k (published c.args.k) (length c.args.block.now) c.args.lost (held m) c.requires.alone.column c.args.work.now c.requires.lines,
     )
 
 pub regain_if_dark-requires : goal.regain_if_dark-requires
@@ -22,14 +22,8 @@ regain_if_dark-requires g c =
     let k = c.args.k in
     let j = c.args.lost in
     let n = c.loop-row.row in
-    let e = rows_are k _ _ c.requires.0 _ c.rows_of-row-end.ensures in
-    let l : n < rows k = omega arith in (
-      room_still _ _ _ _ _ c.loop-row.auto.block c.loop-row.auto.work c.requires.0,
-      (
-        alone_reads _ _ _ _ _ _ (of_rows k j (count n (λ i. dark i j))) c.loop-row.auto.block c.loop-row.invariant.0 c.requires.1.0,
-        (l, subst₂ (λ s x. Halfway k (published k) s j (held x) n c.loop-row.work) (sym c.loop-row.auto.block) (sym c.loop-row.invariant.0) c.loop-row.invariant.1),
-      ),
-    )
+    let e = rows_are k _ _ c.requires.room _ c.rows_of-row-end.ensures in
+    let l : n < rows k = omega arith in record { room = room_still _ _ _ _ _ c.loop-row.auto.block c.loop-row.auto.work c.requires.room; alone = alone_reads _ _ _ _ _ _ (of_rows k j (count n (λ i. dark i j))) c.loop-row.auto.block c.loop-row.invariant.0 c.requires.alone; row = l; halfway = subst₂ (λ s x. Halfway k (published k) s j (held x) n c.loop-row.work) (sym c.loop-row.auto.block) (sym c.loop-row.invariant.0) c.loop-row.invariant.1 }
 
 pub loop-row-preserved : goal.loop-row-preserved
 loop-row-preserved g c =
@@ -44,7 +38,7 @@ loop-row-preserved g c =
 pub returns : goal.returns
 returns g c =
     let k = c.args.k in
-    let e = rows_are k _ _ c.requires.0 _ c.rows_of-row-end.ensures in
+    let e = rows_are k _ _ c.requires.room _ c.rows_of-row-end.ensures in
     let h : c.loop-row.row ≡ rows k = omega arith in
     let i = rw h at c.loop-row.invariant in
     record { tray = i.0; work = i.1 }

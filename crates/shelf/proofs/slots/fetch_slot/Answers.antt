@@ -8,6 +8,6 @@ returns g c =
     record {
       tray = c.fetch.ensures.tray;
       work = λ t b l.
-          slot_put c.args.size c.args.work.now c.args.slot c.fetch.new.block c.requires.1 (omega arith) t b l
+          slot_put c.args.size c.args.work.now c.args.slot c.fetch.new.block c.requires.within (omega arith) t b l
           ∙ ap (λ x. cond (eqb t c.args.slot) (get_or x b 0) (slot c.args.size c.args.work.now t b)) c.fetch.ensures.block;
     }

@@ -9,7 +9,7 @@ use Rattle.shelf.proofs.solve.settle_rank.Goals as goal
 pub returns : goal.returns
 returns c = λ D old.
     let k = c.args.k in
-    let r = rows_are k _ _ c.requires.0 _ c.rows_of-row-end.ensures in
+    let r = rows_are k _ _ c.requires.room _ c.rows_of-row-end.ensures in
     let e : c.loop-row.row ≡ rows k = omega arith in
-    next_rank k (published k) (law_of_width k c.requires.0.width) (no_right k) c.args.p c.args.q c.requires.1 (length c.args.block.now) D c.args.at c.loop-row.row e
+    next_rank k (published k) (law_of_width k c.requires.room.width) (no_right k) c.args.p c.args.q c.requires.pair (length c.args.block.now) D c.args.at c.loop-row.row e
     c.loop-row.work (c.loop-row.invariant D old)

@@ -7,24 +7,24 @@ use Rattle.shelf.proofs.Spreading.{spread_none, spread_more, spread_all}
 use Rattle.shelf.proofs.solve.spread.Goals as goal
 
 pub loop-row-init : goal.loop-row-init
-loop-row-init c = spread_none c.args.k (published c.args.k) (law_of_width _ c.requires.0.width) (length c.args.block.now) c.args.work.now c.args.column c.requires.1
+loop-row-init c = spread_none c.args.k (published c.args.k) (law_of_width _ c.requires.room.width) (length c.args.block.now) c.args.work.now c.args.column c.requires.column
 
 pub copy_slot-requires : goal.copy_slot-requires
 copy_slot-requires c =
-    let e = rows_are c.args.k _ _ c.requires.0 _ c.rows_of-row-end.ensures in
-    has_slot_for c.args.k (length c.args.block.now) (length c.loop-row.block) c.loop-row.work (room_kept _ _ _ _ c.requires.0 c.loop-row.auto.work)
+    let e = rows_are c.args.k _ _ c.requires.room _ c.rows_of-row-end.ensures in
+    has_slot_for c.args.k (length c.args.block.now) (length c.loop-row.block) c.loop-row.work (room_kept _ _ _ _ c.requires.room c.loop-row.auto.work)
     c.loop-row.auto.block c.loop-row.row (omega arith)
 
 pub loop-row-preserved : goal.loop-row-preserved
 loop-row-preserved c =
-    let e = rows_are c.args.k _ _ c.requires.0 _ c.rows_of-row-end.ensures in
-    spread_more c.args.k (published c.args.k) (law_of_width _ c.requires.0.width) (length c.args.block.now) c.args.work.now c.args.column c.requires.1
+    let e = rows_are c.args.k _ _ c.requires.room _ c.rows_of-row-end.ensures in
+    spread_more c.args.k (published c.args.k) (law_of_width _ c.requires.room.width) (length c.args.block.now) c.args.work.now c.args.column c.requires.column
     c.loop-row.row (length c.copy_slot.new.block) (length c.loop-row.block) c.copy_slot.new.block c.loop-row.work c.add_to_lines.new.work
     (omega arith) (omega arith) c.loop-row.auto.block c.loop-row.invariant c.copy_slot.ensures c.add_to_lines.ensures
 
 pub returns : goal.returns
 returns c =
-    let r = rows_are c.args.k _ _ c.requires.0 _ c.rows_of-row-end.ensures in
+    let r = rows_are c.args.k _ _ c.requires.room _ c.rows_of-row-end.ensures in
     let e : c.loop-row.row ≡ rows c.args.k = omega arith in
-    spread_all c.args.k (published c.args.k) (law_of_width _ c.requires.0.width) (length c.args.block.now) c.args.work.now c.args.column c.requires.1 c.loop-row.work
+    spread_all c.args.k (published c.args.k) (law_of_width _ c.requires.room.width) (length c.args.block.now) c.args.work.now c.args.column c.requires.column c.loop-row.work
     (rw e at c.loop-row.invariant)

@@ -9,7 +9,7 @@ use Rattle.shelf.proofs.Holding.{row_of_one, lines_of_one}
 use Rattle.shelf.proofs.sums.add_place.Goals as goal
 
 pub add-requires : goal.add-requires
-add-requires c = has_slot c.args.k _ _ c.requires.0 c.args.row.0 (omega arith)
+add-requires c = has_slot c.args.k _ _ c.requires.room c.args.row.0 (omega arith)
 
 pub returns : goal.returns
 returns c =
@@ -18,9 +18,9 @@ returns c =
     let i = c.args.row.0 in
     let j = c.args.column in
     let x = c.args.block.now in
-    let law = law_of_width k c.requires.0.width in
+    let law = law_of_width k c.requires.room.width in
     plus_same k (length x) c.args.work.now _ _ _ _ _
-    (λ b r _ _. xor_zero_r (only (eqb r i) (get_or x b 0)) ∙ row_of_one k right law i j c.requires.1.0 c.requires.1.1 x b r)
-    (λ b n _ nl. lines_of_one k right law i j c.requires.1.0 c.requires.1.1 x b n nl)
+    (λ b r _ _. xor_zero_r (only (eqb r i) (get_or x b 0)) ∙ row_of_one k right law i j c.requires.row c.requires.column x b r)
+    (λ b n _ nl. lines_of_one k right law i j c.requires.row c.requires.column x b n nl)
     (plus_plus k (length x) c.args.work.now (λ b r. only (eqb r i) (get_or x b 0)) nothing nothing (to_lines k right i j k x) c.add.new.work c.add_to_lines.new.work
-    (plus_row k (length x) c.args.work.now x c.add.new.work i c.requires.1.0 c.add.ensures) c.add_to_lines.ensures)
+    (plus_row k (length x) c.args.work.now x c.add.new.work i c.requires.row c.add.ensures) c.add_to_lines.ensures)

@@ -11,16 +11,16 @@ pub add-requires : goal.add-requires
 add-requires c =
     let k = c.args.k in
     let t = c.args.through in
-    let w = a_width k c.requires.0.width in
+    let w = a_width k c.requires.room.width in
     let here : c.line.result.0 ≡ meets c.args.row.0 t = c.line.ensures.within (omega arith) in
-    let l = meets_lt k c.args.row.0 t c.requires.1.0 c.requires.1.1 in
-    has_slot k (length c.args.block.now) c.args.work.now c.requires.0 c.line_slot.result (omega arith)
+    let l = meets_lt k c.args.row.0 t c.requires.row c.requires.through in
+    has_slot k (length c.args.block.now) c.args.work.now c.requires.room c.line_slot.result (omega arith)
 
 pub returns-then-is_passed : goal.returns-then-is_passed
 returns-then-is_passed c =
     let k = c.args.k in
     let t = c.args.through in
-    let w = a_width k c.requires.0.width in
+    let w = a_width k c.requires.room.width in
     let here : c.line_slot.result ≡ rows k + meets c.args.row.0 t = c.line_slot.ensures ∙ ap (λ n. rows k + n) (c.line.ensures.within (omega arith)) in
     plus_same k _ _ nothing (λ b n. only (eqb n (meets c.args.row.0 t)) (get_or c.args.block.now b 0)) nothing _ _ (λ _ _ _ _. refl)
     (λ b n _ _. ap (λ p. only p (get_or c.args.block.now b 0)) (sym (and_true (eqb n (meets c.args.row.0 t))) ∙ ap (λ p. eqb n (meets c.args.row.0 t) && p) c.if-is_passed.ensures))

@@ -11,7 +11,7 @@ loop-through-init c =
     (plus_none c.args.k (length c.args.block.now) c.args.work.now)
 
 pub add_through-requires : goal.add_through-requires
-add_through-requires c = (room_kept _ _ _ _ c.requires.0 c.loop-through.auto.work, (c.requires.1, c.loop-through-test.true))
+add_through-requires c = record { room = room_kept _ _ _ _ c.requires.room c.loop-through.auto.work; row = c.requires.row; through = c.loop-through-test.true }
 
 pub loop-through-preserved : goal.loop-through-preserved
 loop-through-preserved c =

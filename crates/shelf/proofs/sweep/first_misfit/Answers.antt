@@ -7,20 +7,20 @@ use Rattle.shelf.proofs.Sweeping.{place_ready, agreed, first_off}
 use Rattle.shelf.proofs.sweep.first_misfit.Goals as goal
 
 pub overflow_mul-slots : goal.overflow_mul-slots
-overflow_mul-slots g c = let few = few_rows c.args.k c.requires.0.width in let e = rows_are c.args.k _ _ c.requires.0 _ c.rows_of-slots.ensures in omega arith
+overflow_mul-slots g c = let few = few_rows c.args.k c.requires.room.width in let e = rows_are c.args.k _ _ c.requires.room _ c.rows_of-slots.ensures in omega arith
 
 pub fetch-requires : goal.fetch-requires
 fetch-requires g c =
-    let e = rows_are c.args.k _ _ c.requires.0 _ c.rows_of-slots.ensures in
-    place_ready c.args.k (length c.args.block.now) (g.T.Tray.meaning c.args.tray.now) (g.T.Tray.meaning c.places.tray) c.requires.1 c.places.invariant.1
+    let e = rows_are c.args.k _ _ c.requires.room _ c.rows_of-slots.ensures in
+    place_ready c.args.k (length c.args.block.now) (g.T.Tray.meaning c.args.tray.now) (g.T.Tray.meaning c.places.tray) c.requires.heard c.places.invariant.1
     c.places.slot (omega arith) c.place-column.result (c.place-column.ensures ∙ c.in_slot.ensures) (length c.places.block) c.places.auto.block
 
 pub bounds-work-at : goal.bounds-work-at
 bounds-work-at g c =
-    let e = rows_are c.args.k _ _ c.requires.0 _ c.rows_of-slots.ensures in
+    let e = rows_are c.args.k _ _ c.requires.room _ c.rows_of-slots.ensures in
     let s = c.places.slot in
     let n = length c.fetch.new.block in
-    let h = has_slot_for c.args.k (length c.args.block.now) n c.args.work.now c.requires.0 (c.fetch.auto.block ∙ c.places.auto.block) s (omega arith) in
+    let h = has_slot_for c.args.k (length c.args.block.now) n c.args.work.now c.requires.room (c.fetch.auto.block ∙ c.places.auto.block) s (omega arith) in
     omega (arith, add-mul s 1 n)
 
 pub places-preserved : goal.places-preserved
@@ -47,7 +47,7 @@ returns-then-block-i g c =
     let block = c.fetch.new.block in
     let work = c.args.work.now in
     let same : length block ≡ size = c.fetch.auto.block ∙ c.places.auto.block in
-    let e = rows_are c.args.k _ _ c.requires.0 _ c.rows_of-slots.ensures in
+    let e = rows_are c.args.k _ _ c.requires.room _ c.rows_of-slots.ensures in
     record {
       tray = calm_read m (g.T.Tray.meaning c.places.tray) (g.T.Tray.meaning c.fetch.new.tray) c.place-column.result.0 c.places.invariant.1 c.fetch.ensures.tray;
       found =

@@ -16,7 +16,7 @@ use Rattle.shelf.proofs.roster.Roster.exchange.Goals as goal
 pub hand-requires : goal.hand-requires
 hand-requires g c =
     subst (λ n. Reach c.args.self.now.width n c.args.self.now.missing (g.T.Tray.meaning c.args.tray.now) c.args.column c.args.row.0 c.args.work.now)
-    (sym c.requires.1) c.requires.0
+    (sym c.requires.change) c.requires.reach
 
 pub add-requires : goal.add-requires
 add-requires g c = omega arith
@@ -30,13 +30,13 @@ write_served-requires g c =
     let m = g.T.Tray.meaning c.args.tray.now in
     let m' = g.T.Tray.meaning c.hand.new.tray in
     let j = c.args.column in
-    let heard = heard_still k size out m m' c.hand.ensures.calm.frame c.requires.0.heard in
+    let heard = heard_still k size out m m' c.hand.ensures.calm.frame c.requires.reach.heard in
     answers_ready k size m' j c.args.row.0
-    (heard_answers k size out m' j heard (omega (arith, c.requires.0.column)) (ap (λ t. is_out t j) (sym c.missing-out.ensures) ∙ o)) c.requires.0.row
+    (heard_answers k size out m' j heard (omega (arith, c.requires.reach.column)) (ap (λ t. is_out t j) (sym c.missing-out.ensures) ∙ o)) c.requires.reach.row
 
 pub slice_bounds-add_to_parities-end : goal.slice_bounds-add_to_parities-end
 slice_bounds-add_to_parities-end g c =
-    let l = within_work c.args.self.now.width (length c.args.block.now) c.args.work.now c.requires.0.room in
+    let l = within_work c.args.self.now.width (length c.args.block.now) c.args.work.now c.requires.reach.room in
     let l' : length c.args.block.now ≤ length c.hand.new.work = omega arith in
     search rules
 
@@ -51,18 +51,12 @@ add_to_parities-requires g c =
     let j = c.args.column in
     let i = c.args.row.0 in
     let long : length c.add.new.work ≡ length x = omega arith in
-    let l = within_work k (length x) c.args.work.now c.requires.0.room in
+    let l = within_work k (length x) c.args.work.now c.requires.reach.room in
     let frame =
     written_frame (is_out missing) m m' m'' j i x c.hand.ensures.calm
     (c.write_served.ensures ∙ ap (λ t. cond (is_out t j) m' (stored m' j i x)) c.missing-out.ensures) in
     let wide : c.width-k.result ≡ k = c.width-k.ensures.value in
-    let heard = heard_still k (length x) (is_out missing) m m'' frame c.requires.0.heard in (
-      ap is_width wide ∙ c.requires.0.room.width,
-      (
-        heard_as k c.width-k.result (length x) (length c.add.new.work) missing c.missing-out.result wide long c.missing-out.ensures m'' heard,
-        (subst (λ n. i < rows n) (sym wide) c.requires.0.row, simp length-take (omega arith)),
-      ),
-    )
+    let heard = heard_still k (length x) (is_out missing) m m'' frame c.requires.reach.heard in record { width = ap is_width wide ∙ c.requires.reach.room.width; heard = heard_as k c.width-k.result (length x) (length c.add.new.work) missing c.missing-out.result wide long c.missing-out.ensures m'' heard; row = subst (λ n. i < rows n) (sym wide) c.requires.reach.row; scratch = simp length-take (omega arith) }
 
 pub returns : goal.returns
 returns g c =
@@ -78,9 +72,9 @@ returns g c =
     let x = c.args.block.now in
     let v = c.hand.new.block in
     let change = c.add.new.work in
-    let as_long : length c.args.change.now ≡ length x = c.requires.1 in
+    let as_long : length c.args.change.now ≡ length x = c.requires.change in
     let long : length change ≡ length x = omega arith in
-    exchanged k (published k) (length x) out m m' m'' m''' j i x v change c.requires.0.column c.requires.0.row refl
+    exchanged k (published k) (length x) out m m' m'' m''' j i x v change c.requires.reach.column c.requires.reach.row refl
     (subst (λ n. AtHand k (published k) n out m i j v) as_long c.hand.ensures.at_hand) c.hand.ensures.calm
     (one_slot (length x) v x change c.add.ensures)
     (c.write_served.ensures ∙ ap (λ t. cond (is_out t j) m' (stored m' j i x)) c.missing-out.ensures)

@@ -12,7 +12,7 @@ exchange-requires g c =
     let n = length c.args.block.now in
     let ok = sym c.check_place.ensures ∙ c.in_ok-check_place.was in
     let l : n ≤ 512 = fits_most r m c.args.column c.args.row n c.args.work.now ok c.args.self.now.kept in
-    (in_reach r m c.args.column c.args.row n c.args.work.now ok c.args.self.now.kept, simp length-take (omega arith))
+    record { reach = in_reach r m c.args.column c.args.row n c.args.work.now ok c.args.self.now.kept; change = simp length-take (omega arith) }
 
 pub returns : goal.returns
 returns g c =

@@ -11,9 +11,11 @@ use Rattle.shelf.proofs.roster.Roster.rebuild.Goals as goal
 
 pub refill-reads-requires : goal.refill-reads-requires
 refill-reads-requires g c =
+    let h =
     rebuild_ready (roster_of c.args.self.now) c.args.self.now.kept (g.T.Tray.meaning c.args.tray.now) c.args.column c.args.work.now
     (sym c.check_rebuild.ensures ∙ c.in_ok-check_rebuild.was) c.width.result c.width.ensures.value (length c.block-block.result.now)
-    (c.block-block.ensures ∙ c.size.ensures.value) c.missing.result c.missing.ensures
+    (c.block-block.ensures ∙ c.size.ensures.value) c.missing.result c.missing.ensures in
+    record { room = h.0; heard = h.1.0; answers = h.1.1.0; columns = h.1.1.1.0; missing = h.1.1.1.1 }
 
 pub returns : goal.returns
 returns g c =

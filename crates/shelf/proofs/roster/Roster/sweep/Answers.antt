@@ -10,9 +10,11 @@ use Rattle.shelf.proofs.roster.Roster.sweep.Goals as goal
 
 pub compare-requires : goal.compare-requires
 compare-requires g c =
+    let h =
     sweep_ready (roster_of c.args.self.now) (g.T.Tray.meaning c.args.tray.now) c.args.work.now
     (sym c.check_sweep.ensures ∙ c.in_ok-check_sweep.was) (is_width-kept (roster_of c.args.self.now) c.args.self.now.kept)
-    c.width.result c.width.ensures.value (length c.block.result.now) (c.block.ensures ∙ c.size.ensures.value)
+    c.width.result c.width.ensures.value (length c.block.result.now) (c.block.ensures ∙ c.size.ensures.value) in
+    record { room = h.0; heard = h.1 }
 
 pub returns : goal.returns
 returns g c =
