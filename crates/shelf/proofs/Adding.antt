@@ -4,7 +4,6 @@ use native.Mathlib.Decide.{ℕ_discrete}
 use lib.Bits.{bit_xor, xor_assoc, xor_zero_r}
 use borrow.Author.Tests.{eq-true, ne_false}
 use Rattle.std.proofs.lemmas.Bool.Decides.{nat_tests}
-use Rattle.code.specs.Widths.{is_width}
 use Rattle.code.specs.Numbers.{only}
 use Rattle.code.specs.Code.{rows}
 use Rattle.code.proofs.Xor.{only_false}
@@ -19,14 +18,10 @@ pub has_slot_for : (k size len : ℕ) (work : List ℕ) → Room k size work →
 has_slot_for k size len work room e s l = subst (λ x. (s + 1) * x ≤ length work) (sym e) (has_slot k size work room s l)
 
 pub room_kept : (k size : ℕ) (was work : List ℕ) → Room k size was → length work ≡ length was → Room k size work
-room_kept k size was work room e = record { width = room.width; large = omega (arith, room.large) }
+room_kept k size was work room e = record { large = omega (arith, room.large) }
 
 pub room_kept_for : (k size len : ℕ) (was work : List ℕ) → Room k size was → length work ≡ length was → len ≡ size → Room k len work
 room_kept_for k size len was work room e f = subst (λ x. Room k x work) (sym f) (room_kept k size was work room e)
-
--- as many rows as the code counts
-pub rows_are : (k size : ℕ) (work : List ℕ) → Room k size work → (n : ℕ) → n ≡ cond (is_width k) (rows k) 0 → n ≡ rows k
-rows_are k size work room n e = e ∙ ap (λ b. cond b (rows k) 0) room.width
 
 -- slots filled one by one
 pub filled_none : (size : ℕ) (was : List ℕ) (first : ℕ) (f : ℕ → ℕ → ℕ) → Filled size was first 0 f was

@@ -46,7 +46,6 @@ pub is_alone : (k size : ℕ) (out : Missing) (m : Meaning) (j i : ℕ) (work : 
 is_alone k size out m j i work h o f =
     let sole = is_sole k out j o f in
     record {
-      width = h.room.width;
       column = h.column;
       heard = record { shape = h.heard.shape; answers = λ c cl e. h.heard.answers c cl (sole.others c cl (λ q. eqb-false j c e (sym q))) };
     }

@@ -42,7 +42,6 @@ calm_then m m' m'' p q =
 pub alone_calm : (k size s : ℕ) (m m' : Meaning) (j : ℕ) → s ≡ size → Calm m m' → Alone k size m j → Alone k s m' j
 alone_calm k size s m m' j e p a =
     record {
-      width = a.width;
       column = a.column;
       heard = record {
         shape = record {

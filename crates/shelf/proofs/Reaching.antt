@@ -14,7 +14,7 @@ use Rattle.shelf.specs.Rosters.{Rostered, out_of}
 use Rattle.shelf.specs.Checks.{reaching}
 use Rattle.shelf.specs.Promises.{GetsOn, PutsOn}
 use Rattle.shelf.specs.Hands.{Reach}
-use Rattle.shelf.proofs.Limits.{is_width-kept, are_columns-kept}
+use Rattle.shelf.proofs.Limits.{are_columns-kept}
 use Rattle.shelf.proofs.Checked.{reached}
 
 module _ (r : Rostered) (m : Meaning) (c i n : ℕ) (work : List ℕ) (ok : reaching r m c i n (length work) ≡ Ok tt) where
@@ -22,7 +22,7 @@ module _ (r : Rostered) (m : Meaning) (c i n : ℕ) (work : List ℕ) (ok : reac
   in_reach kept =
       let h = reached r m c i n (length work) ok in
       record {
-        room = record { width = is_width-kept r kept; large = subst (λ x. 2 * rows r.width * x ≤ length work) (sym h.long) h.room };
+        room = record { large = subst (λ x. 2 * rows r.width * x ≤ length work) (sym h.long) h.room };
         heard = record {
           shape = record { wide = h.sound.shape.wide; tall = h.sound.shape.tall; deep = h.sound.shape.deep ∙ sym h.long };
           answers = h.sound.heard;

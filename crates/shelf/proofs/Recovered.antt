@@ -9,7 +9,6 @@ use Rattle.code.specs.Numbers.{only}
 use Rattle.code.specs.Code.{Blocks, Rule, rows, meets, butterfly, value}
 use Rattle.code.proofs.Put.{any_none, not_so}
 use Rattle.code.proofs.Linear.{difference, value_data, value_horizontal, value_butterfly, horizontal_same, butterfly_same, butterfly_xor}
-use Rattle.code.specs.Widths.{is_width}
 use Rattle.code.specs.Laws.{lane}
 use Rattle.law.specs.Service.{Columns}
 use Rattle.shelf.specs.declared.roster.missing.Missing.{Missing}
@@ -21,9 +20,6 @@ use Rattle.shelf.specs.Solving.{from_rows, Spread, Solving}
 use Rattle.shelf.specs.Recovering.{slot_for, Found, Finds}
 use Rattle.shelf.proofs.Outs.{any_two_of}
 use Rattle.shelf.proofs.Finding.{row_lost, row_kept, line_lost, line_kept, start_two, start_one, solved_at, row_of_one, kept}
-
-pub rows_of_width : (k : ℕ) → is_width k ≡ true → (n : ℕ) → n ≡ cond (is_width k) (rows k) 0 → n ≡ rows k
-rows_of_width k w n e = e ∙ ap (λ b. cond b (rows k) 0) w
 
 module _ (k by c r : ℕ) where
   pub by_rows : c ≡ by → slot_for k by c r ≡ r

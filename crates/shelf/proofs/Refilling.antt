@@ -39,7 +39,7 @@ use Rattle.shelf.specs.Regaining.{sole_slot, half_of}
 use Rattle.shelf.specs.Rebuilding.{slot_of, pair_of, Located, slot_block, written, reads_for, reads_of}
 use Rattle.shelf.proofs.Outs.{any_one, any_two_of}
 use Rattle.shelf.proofs.Adding.{has_slot}
-use Rattle.shelf.proofs.Limits.{is_width-kept, are_columns-kept}
+use Rattle.shelf.proofs.Limits.{are_columns-kept}
 use Rattle.shelf.proofs.Checked.{rebuildable}
 use Rattle.shelf.proofs.Missing.{at_most_two, removed_out, out_is_column}
 use Rattle.shelf.proofs.Rebuilding.{slot_long, slot_byte, half_rows, few_reads, fewer_reads}
@@ -357,7 +357,7 @@ module _ (r : Rostered) (kept : keeps r.width r.size r.missing ≡ true) (m : Me
       subst (λ x. Refillable x size out m c work) (sym ke)
       (subst (λ y. Refillable r.width y out m c work) (sym se)
       (subst (λ z. Refillable r.width r.size z m c work) (sym oe) (
-        record { width = is_width-kept r kept; large = h.room },
+        record { large = h.room },
         (
           record {
             shape = h.sound.shape;

@@ -38,7 +38,6 @@ pub alone_reads : (k size s : ℕ) (m m' : Meaning) (j : ℕ) (f : ℕ → ℕ) 
 alone_reads k size s m m' j f h e a =
     subst₂ (λ x y. Alone k x y j) (sym h) (sym e)
     (record {
-      width = a.width;
       column = a.column;
       heard = record {
         shape = record { wide = a.heard.shape.wide; tall = a.heard.shape.tall; deep = a.heard.shape.deep };

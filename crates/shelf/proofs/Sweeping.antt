@@ -202,7 +202,7 @@ module _ (r : Rostered) (m : Meaning) where
       let h = sweepable r m (length work) ok in
       subst (λ x. Room x size work × Heard x size (is_out Nothing) m) (sym ke)
       (subst (λ y. Room r.width y work × Heard r.width y (is_out Nothing) m) (sym se)
-      (record { width = width; large = h.room }, record { shape = h.sound.shape; answers = h.sound.heard }))
+      (record { large = h.room }, record { shape = h.sound.shape; answers = h.sound.heard }))
 
   -- and what it does
   pub swept : (w : ℕ) → sweeping r m w ≡ Ok tt → (m' : Meaning) (found : Option (ℕ × ℕ))

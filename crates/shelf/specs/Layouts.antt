@@ -42,4 +42,4 @@ zeroed width size m = wiped m (width + 2) (rows width) (replicate size 0)
 
 -- an accepted layout begins a run: the shelf stands at its end, with no call made yet
 abbrev pub Begins : Result Roster Fault → (m : Meaning) → Sized m → Type 0
-Begins answer m sized = IfOk answer (λ r. Run r.width (published r.width) r.size [] between (shelf_on (roster_of r) m sized))
+Begins answer m sized = IfOk answer (λ r. Run r.width.number (published r.width.number) r.size [] between (shelf_on (roster_of r) m sized))

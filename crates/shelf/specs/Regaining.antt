@@ -5,7 +5,6 @@ use Rattle.tray.specs.Meaning.{Meaning}
 use Rattle.code.specs.Numbers.{only}
 use Rattle.code.specs.Code.{Blocks, Rule, rows, dark, meets, butterfly, gives}
 use Rattle.code.specs.Lines.{takes}
-use Rattle.code.specs.Widths.{is_width}
 use Rattle.law.specs.Holding.{held}
 use Rattle.law.specs.Hand.{by_row, with_row, regained}
 use Rattle.shelf.specs.Slots.{slot, row_slot, line_slot}
@@ -13,7 +12,6 @@ use Rattle.shelf.specs.Reading.{Heard}
 
 -- a tray of this shape, of which data column j alone is out, and the others answer
 pub record Alone (k size : ℕ) (m : Meaning) (j : ℕ) : Type 0 where
-  pub width : is_width k ≡ true
   pub column : j < k
   pub heard : Heard k size (nat_eq j) m
 

@@ -15,7 +15,7 @@ pub record Rostered : Type 0 where
   pub missing : Missing
 
 abbrev pub roster_of : Roster → Rostered
-roster_of r = record { width = r.width; size = r.size; missing = r.missing }
+roster_of r = record { width = r.width.number; size = r.size; missing = r.missing }
 
 -- a new roster: no column is out
 abbrev pub full_roster : ℕ → ℕ → Rostered

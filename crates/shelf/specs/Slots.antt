@@ -1,9 +1,8 @@
 -- The work space of a call: a slot of one block for each row, and behind them one for each line.
-use Rattle.std.specs.Prelude.{◌≡◌, ℕ, ◌+◌, ◌-◌, ◌*◌, ◌<◌, ◌≤◌, Bool, true, cond, not, ◌&&◌, List, length, ◌==◌, bit_xor, nat_le, nat_lt, slice_index}
+use Rattle.std.specs.Prelude.{◌≡◌, ℕ, ◌+◌, ◌-◌, ◌*◌, ◌<◌, ◌≤◌, Bool, cond, not, ◌&&◌, List, length, ◌==◌, bit_xor, nat_le, nat_lt, slice_index}
 use Rattle.code.specs.Numbers.{only, xorsum}
 use Rattle.code.specs.Code.{Blocks, Rule, spot, rows, meets, horizontal, butterfly}
 use Rattle.code.specs.Lines.{takes, holds}
-use Rattle.code.specs.Widths.{is_width}
 
 -- byte b of slot s, where slots have `size` bytes
 unfoldable pub slot : ℕ → List ℕ → ℕ → ℕ → ℕ
@@ -18,7 +17,6 @@ line_slot k size work b n = slot size work (rows k + n) b
 
 -- a work space that has a slot for each row and each line of a width
 pub record Room (k size : ℕ) (work : List ℕ) : Type 0 where
-  pub width : is_width k ≡ true
   pub large : 2 * rows k * size ≤ length work
 
 -- the first n bytes from `at` on are zeros, as a loop goes

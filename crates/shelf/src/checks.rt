@@ -87,7 +87,7 @@ impl Roster {
         if !self.fits(tray) {
             return Err(Fault::shelf(Refusal::ShapeDiffers, Some(column), Some(row)));
         }
-        if column >= self.width() {
+        if column >= self.width().number {
             return Err(Fault::shelf(Refusal::ColumnTooHigh, Some(column), Some(row)));
         }
         if row >= self.rows() {

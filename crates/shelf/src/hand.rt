@@ -15,22 +15,23 @@ use crate::roster::Roster;
 use crate::roster::missing::Missing;
 use crate::slots::copy_slot;
 use code::places::Row;
+use code::widths::Width;
 use tray::trays::Tray;
 
 // The block of a data column that is out with another one: both are found, by way of the block, and one row is copied.
 fn hand_solved<T: Tray>(
     tray: &mut T,
-    k: u32,
+    k: Width,
     out: Missing,
     column: u32,
     row: Row,
     work: &mut [u8],
     block: &mut [u8],
 )
-    requires reach { Reach k (length block.old) out (T.Tray.meaning tray.old) column row.0 work.old }
+    requires reach { Reach k.number (length block.old) out (T.Tray.meaning tray.old) column row.0 work.old }
     requires missing { is_out out column ≡ true }
     requires full { is_full out ≡ true }
-    ensures at_hand { AtHand k (published k) (length block.old) (is_out out) (T.Tray.meaning tray.old) row.0 column block.new }
+    ensures at_hand { AtHand k.number (published k.number) (length block.old) (is_out out) (T.Tray.meaning tray.old) row.0 column block.new }
     ensures calm { Calm (T.Tray.meaning tray.old) (T.Tray.meaning tray.new) }
 {
     let by = recover(tray, k, out, block, work);
@@ -40,17 +41,17 @@ fn hand_solved<T: Tray>(
 // The block of a data column that alone is out. The work space lends a block of scratch space.
 fn hand_sole<T: Tray>(
     tray: &mut T,
-    k: u32,
+    k: Width,
     out: Missing,
     column: u32,
     row: Row,
     work: &mut [u8],
     block: &mut [u8],
 )
-    requires reach { Reach k (length block.old) out (T.Tray.meaning tray.old) column row.0 work.old }
+    requires reach { Reach k.number (length block.old) out (T.Tray.meaning tray.old) column row.0 work.old }
     requires missing { is_out out column ≡ true }
     requires sole { is_full out ≡ false }
-    ensures at_hand { AtHand k (published k) (length block.old) (is_out out) (T.Tray.meaning tray.old) row.0 column block.new }
+    ensures at_hand { AtHand k.number (published k.number) (length block.old) (is_out out) (T.Tray.meaning tray.old) row.0 column block.new }
     ensures calm { Calm (T.Tray.meaning tray.old) (T.Tray.meaning tray.new) }
 {
     let size = block.len();

@@ -13,6 +13,7 @@ use crate::roster::missing::Missing;
 use crate::slots::add;
 use code::lines::is_taken;
 use code::places::Row;
+use code::widths::Width;
 use tray::trays::Tray;
 
 // Adds a block to one of the tray, by way of a block of scratch space.
@@ -29,41 +30,39 @@ fn add_at<T: Tray>(tray: &mut T, column: u32, row: u32, block: &[u8], scratch: &
 // Adds a change of the place in `column` to the line that meets the column `through` in this row, if its sum holds the place.
 fn add_to_line<T: Tray>(
     tray: &mut T,
-    k: u32,
+    k: Width,
     row: Row,
     column: u32,
     through: u32,
     block: &[u8],
     scratch: &mut [u8],
 )
-    requires width { is_width k ≡ true }
-    requires answers { Answers k (length block.now) (T.Tray.meaning tray.old) (k + 1) }
-    requires row { row.0 < rows k }
-    requires through { through < k }
+    requires answers { Answers k.number (length block.now) (T.Tray.meaning tray.old) (k.number + 1) }
+    requires row { row.0 < rows k.number }
+    requires through { through < k.number }
     requires scratch { length scratch.old ≡ length block.now }
-    ensures { AddedAt (length block.now) (T.Tray.meaning tray.old) block.now (line_by k (published k) row.0 column through) (T.Tray.meaning tray.new) }
+    ensures { AddedAt (length block.now) (T.Tray.meaning tray.old) block.now (line_by k.number (published k.number) row.0 column through) (T.Tray.meaning tray.new) }
 {
-    if is_taken(k, row, through, column) {
-        add_at(tray, k + 1, row.line(through).0, block, scratch);
+    if is_taken(k.number, row, through, column) {
+        add_at(tray, k.number + 1, row.line(through).0, block, scratch);
     }
 }
 
 // Adds a change of the place in `column` to every line whose sum holds it.
 fn add_to_lines<T: Tray>(
     tray: &mut T,
-    k: u32,
+    k: Width,
     row: Row,
     column: u32,
     block: &[u8],
     scratch: &mut [u8],
 )
-    requires width { is_width k ≡ true }
-    requires answers { Answers k (length block.now) (T.Tray.meaning tray.old) (k + 1) }
-    requires row { row.0 < rows k }
+    requires answers { Answers k.number (length block.now) (T.Tray.meaning tray.old) (k.number + 1) }
+    requires row { row.0 < rows k.number }
     requires scratch { length scratch.old ≡ length block.now }
-    ensures { AddedAt (length block.now) (T.Tray.meaning tray.old) block.now (line_places k (published k) row.0 column) (T.Tray.meaning tray.new) }
+    ensures { AddedAt (length block.now) (T.Tray.meaning tray.old) block.now (line_places k.number (published k.number) row.0 column) (T.Tray.meaning tray.new) }
 {
-    for through in 0..k {
+    for through in 0..k.number {
         add_to_line(tray, k, row, column, through, block, scratch);
     }
 }
@@ -71,40 +70,39 @@ fn add_to_lines<T: Tray>(
 // Adds a change of a place in this row to the row's sum, if that is in service.
 fn add_to_sum<T: Tray>(
     tray: &mut T,
-    k: u32,
+    k: Width,
     out: Missing,
     row: Row,
     block: &[u8],
     scratch: &mut [u8],
 )
-    requires heard { Heard k (length block.now) (is_out out) (T.Tray.meaning tray.old) }
-    requires row { row.0 < rows k }
+    requires heard { Heard k.number (length block.now) (is_out out) (T.Tray.meaning tray.old) }
+    requires row { row.0 < rows k.number }
     requires scratch { length scratch.old ≡ length block.now }
-    ensures { AddedAt (length block.now) (T.Tray.meaning tray.old) block.now (places_in_service (is_out out) (only_at k row.0)) (T.Tray.meaning tray.new) }
+    ensures { AddedAt (length block.now) (T.Tray.meaning tray.old) block.now (places_in_service (is_out out) (only_at k.number row.0)) (T.Tray.meaning tray.new) }
 {
-    if !out.is_out(k) {
-        add_at(tray, k, row.0, block, scratch);
+    if !out.is_out(k.number) {
+        add_at(tray, k.number, row.0, block, scratch);
     }
 }
 
 // Adds a change of the place in `column` to its parities that are in service.
 pub(crate) fn add_to_parities<T: Tray>(
     tray: &mut T,
-    k: u32,
+    k: Width,
     out: Missing,
     row: Row,
     column: u32,
     block: &[u8],
     scratch: &mut [u8],
 )
-    requires width { is_width k ≡ true }
-    requires heard { Heard k (length block.now) (is_out out) (T.Tray.meaning tray.old) }
-    requires row { row.0 < rows k }
+    requires heard { Heard k.number (length block.now) (is_out out) (T.Tray.meaning tray.old) }
+    requires row { row.0 < rows k.number }
     requires scratch { length scratch.old ≡ length block.now }
-    ensures { AddedAt (length block.now) (T.Tray.meaning tray.old) block.now (parities_of k (published k) (is_out out) row.0 column) (T.Tray.meaning tray.new) }
+    ensures { AddedAt (length block.now) (T.Tray.meaning tray.old) block.now (parities_of k.number (published k.number) (is_out out) row.0 column) (T.Tray.meaning tray.new) }
 {
     add_to_sum(tray, k, out, row, block, scratch);
-    if !out.is_out(k + 1) {
+    if !out.is_out(k.number + 1) {
         add_to_lines(tray, k, row, column, block, scratch);
     }
 }

@@ -27,7 +27,7 @@ use crate::roster::missing::Missing;
 use crate::scratch::Scratch;
 use crate::sums::line_slot;
 use code::places::Row;
-use code::widths::rows_of;
+use code::widths::Width;
 use tray::fault::Fault;
 use tray::trays::Tray;
 
@@ -41,12 +41,11 @@ enum Whereabouts {
 }
 
 // The slot of a row of a data column that alone is out.
-fn sole_slot(k: u32, column: u32, row: Row) -> usize
-    requires width { is_width k ≡ true }
-    requires column { column < k }
-    requires row { row.0 < rows k }
-    ensures value { result ≡ sole_slot k column row.0 }
-    ensures within { result < rows k + rows k }
+fn sole_slot(k: Width, column: u32, row: Row) -> usize
+    requires column { column < k.number }
+    requires row { row.0 < rows k.number }
+    ensures value { result ≡ sole_slot k.number column row.0 }
+    ensures within { result < rows k.number + rows k.number }
 {
     if row.is_dark(column) {
         row.0 as usize
@@ -57,12 +56,11 @@ fn sole_slot(k: u32, column: u32, row: Row) -> usize
 
 impl Whereabouts {
     // The slot of a row of the column.
-    fn slot(self, k: u32, column: u32, row: Row) -> usize
-        requires width { is_width k ≡ true }
-        requires column { self ≡ Whereabouts.Alone → column < k }
-        requires row { row.0 < rows k }
-        ensures value { result ≡ slot_of k self column row.0 }
-        ensures within { result < rows k + rows k }
+    fn slot(self, k: Width, column: u32, row: Row) -> usize
+        requires column { self ≡ Whereabouts.Alone → column < k.number }
+        requires row { row.0 < rows k.number }
+        ensures value { result ≡ slot_of k.number self column row.0 }
+        ensures within { result < rows k.number + rows k.number }
     {
         match self {
             Whereabouts::Alone => sole_slot(k, column, row),
@@ -71,37 +69,35 @@ impl Whereabouts {
     }
 
     // The number of blocks that were read to find the column: half of each other column, or the whole of k columns.
-    fn reads(self, k: u32) -> u32
-        requires { is_width k ≡ true }
-        ensures { result ≡ reads_for k self }
+    fn reads(self, k: Width) -> u32
+        ensures { result ≡ reads_for k.number self }
     {
         match self {
-            Whereabouts::Alone => (k + 1) * (rows_of(k) / 2),
-            Whereabouts::ByRows(_) => k * rows_of(k),
+            Whereabouts::Alone => (k.number + 1) * (k.rows() / 2),
+            Whereabouts::ByRows(_) => k.number * k.rows(),
         }
     }
 }
 
 impl Missing {
     // Whether a data column alone is out.
-    fn is_sole_data(self, k: u32) -> bool
-        ensures { result ≡ is_sole_data k self }
+    fn is_sole_data(self, k: Width) -> bool
+        ensures { result ≡ is_sole_data k.number self }
     {
         match self {
-            Missing::One(a) => a < k,
+            Missing::One(a) => a < k.number,
             _ => false,
         }
     }
 
     // The two columns that are taken as missing where it is not a data column alone. With all data in service both parities
     // are made of them, whatever the other parity holds.
-    fn pair(self, k: u32) -> Missing
-        requires { is_width k ≡ true }
-        ensures { result ≡ pair_of k self }
+    fn pair(self, k: Width) -> Missing
+        ensures { result ≡ pair_of k.number self }
     {
         match self {
             Missing::Two(a, b) => Missing::Two(a, b),
-            _ => Missing::Two(k, k + 1),
+            _ => Missing::Two(k.number, k.number + 1),
         }
     }
 }
@@ -109,17 +105,17 @@ impl Missing {
 // Finds a missing column in the work space.
 fn locate<T: Tray>(
     tray: &mut T,
-    k: u32,
+    k: Width,
     out: Missing,
     column: u32,
     block: &mut [u8],
     work: &mut [u8],
 ) -> Whereabouts
-    requires room { Room k (length block.old) work.old }
-    requires heard { Heard k (length block.old) (is_out out) (T.Tray.meaning tray.old) }
-    requires columns { are_columns k out ≡ true }
+    requires room { Room k.number (length block.old) work.old }
+    requires heard { Heard k.number (length block.old) (is_out out) (T.Tray.meaning tray.old) }
+    requires columns { are_columns k.number out ≡ true }
     requires missing { is_out out column ≡ true }
-    ensures { Located k (published k) (length block.old) out (T.Tray.meaning tray.old) column result (T.Tray.meaning tray.new) work.new }
+    ensures { Located k.number (published k.number) (length block.old) out (T.Tray.meaning tray.old) column result (T.Tray.meaning tray.new) work.new }
 {
     if out.is_sole_data(k) {
         regain(tray, k, column, block, work);
@@ -143,18 +139,18 @@ fn place_slot<T: Tray>(tray: &mut T, column: u32, row: u32, work: &[u8], slot: u
 // Writes every row of a column that was found.
 fn write_column<T: Tray>(
     tray: &mut T,
-    k: u32,
+    k: Width,
     column: u32,
     found: Whereabouts,
     size: usize,
     work: &[u8],
 )
-    requires room { Room k size work.now }
-    requires answers { Answers k size (T.Tray.meaning tray.old) column }
-    requires column { found ≡ Whereabouts.Alone → column < k }
-    ensures { T.Tray.meaning tray.new ≡ written (T.Tray.meaning tray.old) column (rows k) (λ i. slot_block size work.now (slot_of k found column i)) }
+    requires room { Room k.number size work.now }
+    requires answers { Answers k.number size (T.Tray.meaning tray.old) column }
+    requires column { found ≡ Whereabouts.Alone → column < k.number }
+    ensures { T.Tray.meaning tray.new ≡ written (T.Tray.meaning tray.old) column (rows k.number) (λ i. slot_block size work.now (slot_of k.number found column i)) }
 {
-    for row in 0..rows_of(k) {
+    for row in 0..k.rows() {
         place_slot(
             tray,
             column,
@@ -169,19 +165,19 @@ fn write_column<T: Tray>(
 // Finds a missing column and writes it, and answers the number of blocks that were read. The block is scratch space.
 fn refill<T: Tray>(
     tray: &mut T,
-    k: u32,
+    k: Width,
     out: Missing,
     column: u32,
     block: &mut [u8],
     work: &mut [u8],
 ) -> u32
-    requires room { Room k (length block.old) work.old }
-    requires heard { Heard k (length block.old) (is_out out) (T.Tray.meaning tray.old) }
+    requires room { Room k.number (length block.old) work.old }
+    requires heard { Heard k.number (length block.old) (is_out out) (T.Tray.meaning tray.old) }
     requires answers { (T.Tray.meaning tray.old).answers column ≡ true }
-    requires columns { are_columns k out ≡ true }
+    requires columns { are_columns k.number out ≡ true }
     requires missing { is_out out column ≡ true }
-    ensures count { result ≡ reads_of k out }
-    ensures done { Rebuilt k (published k) (length block.old) (is_out out) (T.Tray.meaning tray.old) column result (removed (is_out out) column) (T.Tray.meaning tray.new) }
+    ensures count { result ≡ reads_of k.number out }
+    ensures done { Rebuilt k.number (published k.number) (length block.old) (is_out out) (T.Tray.meaning tray.old) column result (removed (is_out out) column) (T.Tray.meaning tray.new) }
 {
     let found = locate(tray, k, out, column, block, work);
     write_column(tray, k, column, found, block.len(), work);

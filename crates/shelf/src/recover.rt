@@ -13,34 +13,33 @@ use crate::roster::missing::Missing;
 use crate::solve::{solve, spread};
 use code::neighbours::is_right;
 use code::places::Row;
-use code::widths::rows_of;
+use code::widths::Width;
 use tray::trays::Tray;
 
 // The slot of a row of a missing column, once the columns are found and the column `by` lies by rows.
-pub(crate) fn slot_for(k: u32, by: u32, column: u32, row: Row) -> usize
-    requires width { is_width k ≡ true }
-    requires row { row.0 < rows k }
-    ensures value { result ≡ slot_for k by column row.0 }
-    ensures within { result < rows k + rows k }
+pub(crate) fn slot_for(k: Width, by: u32, column: u32, row: Row) -> usize
+    requires { row.0 < rows k.number }
+    ensures value { result ≡ slot_for k.number by column row.0 }
+    ensures within { result < rows k.number + rows k.number }
 {
     if column == by {
         row.0 as usize
-    } else if column < k {
-        rows_of(k) as usize + row.line(column).0 as usize
+    } else if column < k.number {
+        k.rows() as usize + row.line(column).0 as usize
     } else {
-        rows_of(k) as usize + row.0 as usize
+        k.rows() as usize + row.0 as usize
     }
 }
 
 // Finds two data columns, and answers the one that lies by rows: of the two, the one that has the other for a right neighbour.
-fn find_data(work: &mut [u8], k: u32, a: u32, b: u32, block: &mut [u8]) -> u32
-    requires room { Room k (length block.old) work.old }
-    requires a { a < k }
-    requires b { b < k }
+fn find_data(work: &mut [u8], k: Width, a: u32, b: u32, block: &mut [u8]) -> u32
+    requires room { Room k.number (length block.old) work.old }
+    requires a { a < k.number }
+    requires b { b < k.number }
     requires apart { a ≢ b }
-    ensures { Finds k (published k) (length block.old) (Missing.Two a b) work.old result work.new }
+    ensures { Finds k.number (published k.number) (length block.old) (Missing.Two a b) work.old result work.new }
 {
-    if is_right(k, b, a) {
+    if is_right(k.number, b, a) {
         spread(work, k, b, block);
         solve(work, k, a, b, block);
         b
@@ -52,16 +51,16 @@ fn find_data(work: &mut [u8], k: u32, a: u32, b: u32, block: &mut [u8]) -> u32
 }
 
 // Finds a data column and a parity column, and answers the one that lies by rows.
-fn find_with_parity(work: &mut [u8], k: u32, column: u32, parity: u32, block: &mut [u8]) -> u32
-    requires room { Room k (length block.old) work.old }
-    requires column { column < k }
-    requires parity { k ≤ parity }
-    requires below { parity < k + 2 }
-    ensures { Finds k (published k) (length block.old) (Missing.Two column parity) work.old result work.new }
+fn find_with_parity(work: &mut [u8], k: Width, column: u32, parity: u32, block: &mut [u8]) -> u32
+    requires room { Room k.number (length block.old) work.old }
+    requires column { column < k.number }
+    requires parity { k.number ≤ parity }
+    requires below { parity < k.number + 2 }
+    ensures { Finds k.number (published k.number) (length block.old) (Missing.Two column parity) work.old result work.new }
 {
-    if parity == k {
-        solve(work, k, column, k, block);
-        k
+    if parity == k.number {
+        solve(work, k, column, k.number, block);
+        k.number
     } else {
         spread(work, k, column, block);
         column
@@ -69,16 +68,16 @@ fn find_with_parity(work: &mut [u8], k: u32, column: u32, parity: u32, block: &m
 }
 
 // Finds two columns, and answers the one that lies by rows.
-fn find_two(work: &mut [u8], k: u32, a: u32, b: u32, block: &mut [u8]) -> u32
-    requires room { Room k (length block.old) work.old }
-    requires columns { are_columns k (Missing.Two a b) ≡ true }
-    ensures { Finds k (published k) (length block.old) (Missing.Two a b) work.old result work.new }
+fn find_two(work: &mut [u8], k: Width, a: u32, b: u32, block: &mut [u8]) -> u32
+    requires room { Room k.number (length block.old) work.old }
+    requires columns { are_columns k.number (Missing.Two a b) ≡ true }
+    ensures { Finds k.number (published k.number) (length block.old) (Missing.Two a b) work.old result work.new }
 {
-    if a >= k && b >= k {
-        k
-    } else if b >= k {
+    if a >= k.number && b >= k.number {
+        k.number
+    } else if b >= k.number {
         find_with_parity(work, k, a, b, block)
-    } else if a >= k {
+    } else if a >= k.number {
         find_with_parity(work, k, b, a, block)
     } else {
         find_data(work, k, a, b, block)
@@ -86,15 +85,15 @@ fn find_two(work: &mut [u8], k: u32, a: u32, b: u32, block: &mut [u8]) -> u32
 }
 
 // Finds the missing columns from what was gathered, and answers the column that lies by rows.
-fn find(work: &mut [u8], k: u32, out: Missing, block: &mut [u8]) -> u32
-    requires room { Room k (length block.old) work.old }
-    requires columns { are_columns k out ≡ true }
-    requires several { is_sole_data k out ≡ false }
-    ensures { Finds k (published k) (length block.old) out work.old result work.new }
+fn find(work: &mut [u8], k: Width, out: Missing, block: &mut [u8]) -> u32
+    requires room { Room k.number (length block.old) work.old }
+    requires columns { are_columns k.number out ≡ true }
+    requires several { is_sole_data k.number out ≡ false }
+    ensures { Finds k.number (published k.number) (length block.old) out work.old result work.new }
 {
     match out {
-        Missing::Nothing => k,
-        Missing::One(_) => k,
+        Missing::Nothing => k.number,
+        Missing::One(_) => k.number,
         Missing::Two(a, b) => find_two(work, k, a, b, block),
     }
 }
@@ -102,17 +101,17 @@ fn find(work: &mut [u8], k: u32, out: Missing, block: &mut [u8]) -> u32
 // Finds the missing columns, and answers the column whose blocks then lie in the slots of the rows.
 pub(crate) fn recover<T: Tray>(
     tray: &mut T,
-    k: u32,
+    k: Width,
     out: Missing,
     block: &mut [u8],
     work: &mut [u8],
 ) -> u32
-    requires room { Room k (length block.old) work.old }
-    requires heard { Heard k (length block.old) (is_out out) (T.Tray.meaning tray.old) }
-    requires columns { are_columns k out ≡ true }
-    requires several { is_sole_data k out ≡ false }
-    ensures tray { T.Tray.meaning tray.new ≡ after_reads (T.Tray.meaning tray.old) (once_each k (is_out out)) }
-    ensures work { Found k (published k) (length block.old) (is_out out) (T.Tray.meaning tray.old) result work.new }
+    requires room { Room k.number (length block.old) work.old }
+    requires heard { Heard k.number (length block.old) (is_out out) (T.Tray.meaning tray.old) }
+    requires columns { are_columns k.number out ≡ true }
+    requires several { is_sole_data k.number out ≡ false }
+    ensures tray { T.Tray.meaning tray.new ≡ after_reads (T.Tray.meaning tray.old) (once_each k.number (is_out out)) }
+    ensures work { Found k.number (published k.number) (length block.old) (is_out out) (T.Tray.meaning tray.old) result work.new }
 {
     gather(tray, k, out, block, work);
     find(work, k, out, block)

@@ -8,13 +8,14 @@ pub mod parts;
 pub mod pull;
 mod reads;
 
+use code::widths::Width;
 use missing::Missing;
 
 // It is moved and lent, and never copied, so that one shelf has one roster.
 #[derive(Drop)]
 pub struct Roster {
-    width: u32,
+    width: Width,
     size: u32,
     missing: Missing,
-    ghost kept: { keeps width size missing ≡ true },
+    ghost kept: { keeps width.number size missing ≡ true },
 }

@@ -20,7 +20,7 @@ use crate::roster::Roster;
 use crate::roster::missing::Missing;
 use crate::scratch::Scratch;
 use code::places::{Line, Row};
-use code::widths::rows_of;
+use code::widths::Width;
 use tray::fault::Fault;
 use tray::trays::Tray;
 
@@ -33,11 +33,10 @@ enum Parity {
 
 impl Parity {
     // The parity block whose sum of the data lies in a slot of the work space: the rows come first, and then the lines.
-    fn in_slot(k: u32, slot: u32) -> Parity
-        requires { is_width k ≡ true }
-        ensures { place_of k result ≡ parity_place k slot }
+    fn in_slot(k: Width, slot: u32) -> Parity
+        ensures { place_of k.number result ≡ parity_place k.number slot }
     {
-        let rows = rows_of(k);
+        let rows = k.rows();
         if slot < rows {
             Parity::OfRow(Row(slot))
         } else {
@@ -46,26 +45,30 @@ impl Parity {
     }
 
     // The parity column that the block lies in, and the number of its row or line there.
-    fn place(self, k: u32) -> (u32, u32)
-        requires { is_width k ≡ true }
-        ensures { result ≡ place_of k self }
+    fn place(self, k: Width) -> (u32, u32)
+        ensures { result ≡ place_of k.number self }
     {
         match self {
-            Parity::OfRow(row) => (k, row.0),
-            Parity::OfLine(line) => (k + 1, line.0),
+            Parity::OfRow(row) => (k.number, row.0),
+            Parity::OfLine(line) => (k.number + 1, line.0),
         }
     }
 }
 
 // The first parity place, column k by rows and then column k + 1 by lines, that does not hold what its slot does.
-fn first_misfit<T: Tray>(tray: &mut T, k: u32, block: &mut [u8], work: &[u8]) -> Option<(u32, u32)>
-    requires room { Room k (length block.old) work.now }
-    requires heard { Heard k (length block.old) (is_out Missing.Nothing) (T.Tray.meaning tray.old) }
+fn first_misfit<T: Tray>(
+    tray: &mut T,
+    k: Width,
+    block: &mut [u8],
+    work: &[u8],
+) -> Option<(u32, u32)>
+    requires room { Room k.number (length block.old) work.now }
+    requires heard { Heard k.number (length block.old) (is_out Missing.Nothing) (T.Tray.meaning tray.old) }
     ensures tray { Calm (T.Tray.meaning tray.old) (T.Tray.meaning tray.new) }
-    ensures found { Compared k (length block.old) (T.Tray.meaning tray.old) work.now result }
+    ensures found { Compared k.number (length block.old) (T.Tray.meaning tray.old) work.now result }
 {
     let mut found = None;
-    let slots = 2 * rows_of(k);
+    let slots = 2 * k.rows();
     'places: for slot in 0..slots {
         let (column, row) = Parity::in_slot(k, slot).place(k);
         fetch(tray, column, row, block);
@@ -81,11 +84,11 @@ fn first_misfit<T: Tray>(tray: &mut T, k: u32, block: &mut [u8], work: &[u8]) ->
 }
 
 // Compares both parities with the data, on a tray whose columns all answer. The block is scratch space.
-fn compare<T: Tray>(tray: &mut T, k: u32, block: &mut [u8], work: &mut [u8]) -> Option<(u32, u32)>
-    requires room { Room k (length block.old) work.old }
-    requires heard { Heard k (length block.old) (is_out Missing.Nothing) (T.Tray.meaning tray.old) }
+fn compare<T: Tray>(tray: &mut T, k: Width, block: &mut [u8], work: &mut [u8]) -> Option<(u32, u32)>
+    requires room { Room k.number (length block.old) work.old }
+    requires heard { Heard k.number (length block.old) (is_out Missing.Nothing) (T.Tray.meaning tray.old) }
     ensures tray { Calm (T.Tray.meaning tray.old) (T.Tray.meaning tray.new) }
-    ensures found { Finding k (published k) (length block.old) (T.Tray.meaning tray.old) result }
+    ensures found { Finding k.number (published k.number) (length block.old) (T.Tray.meaning tray.old) result }
 {
     gather(tray, k, Missing::Nothing, block, work);
     first_misfit(tray, k, block, work)

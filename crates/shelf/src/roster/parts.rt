@@ -6,7 +6,7 @@ ghost use Rattle.shelf.specs.Layouts.{made_of, making};
 
 use crate::roster::Roster;
 use crate::roster::missing::Missing;
-use code::widths::{is_width, rows_of};
+use code::widths::Width;
 use tray::fault::{Fault, Refusal};
 
 // The most bytes that a block may have.
@@ -17,21 +17,19 @@ impl Roster {
     pub(crate) fn new(width: u32, size: u32) -> Result<Roster, Fault>
         ensures { made_of result ≡ making width size }
     {
-        if !is_width(width) || size < 1 || size > MOST_SIZE {
-            return Err(Fault::shelf(Refusal::OutsideLimits, None, None));
+        match Width::new(width) {
+            Some(width) if (1..=MOST_SIZE).contains(&size) => Ok(Roster {
+                width,
+                size,
+                missing: Missing::Nothing,
+            }),
+            _ => Err(Fault::shelf(Refusal::OutsideLimits, None, None)),
         }
-        Ok(Roster {
-            width,
-            size,
-            missing: Missing::Nothing,
-        })
     }
 
-    // The number of data columns.
-    pub(crate) fn width(&self) -> u32
-        ensures value { result ≡ (roster_of self.now).width }
-        ensures low { 3 ≤ result }
-        ensures high { result ≤ 11 }
+    // The width: how many data columns there are.
+    pub(crate) fn width(&self) -> Width
+        ensures value { result.number ≡ (roster_of self.now).width }
     {
         self.width
     }
@@ -41,7 +39,7 @@ impl Roster {
         ensures value { result ≡ (roster_of self.now).width + 2 }
         ensures high { result ≤ 13 }
     {
-        self.width() + 2
+        self.width.number + 2
     }
 
     // The number of rows of each column.
@@ -49,7 +47,7 @@ impl Roster {
         ensures value { result ≡ rows (roster_of self.now).width }
         ensures high { result ≤ 1024 }
     {
-        rows_of(self.width)
+        self.width.rows()
     }
 
     // The number of bytes of a block.

@@ -13,8 +13,8 @@ returns-then-is_read g c =
     let m = g.T.Tray.meaning c.args.tray.now in
     let e = c.if-is_read.true in
     record {
-      tray = c.load.ensures.tray ∙ ap (λ b. after_reads m (times c.args.column (cond b (rows c.args.k) 0))) (sym e);
-      work = filled_same c.args.size c.args.work.now c.args.first (rows c.args.k) _ (λ r b. only c.args.is_read (held m b r c.args.column)) _
+      tray = c.load.ensures.tray ∙ ap (λ b. after_reads m (times c.args.column (cond b (rows c.args.k.number) 0))) (sym e);
+      work = filled_same c.args.size c.args.work.now c.args.first (rows c.args.k.number) _ (λ r b. only c.args.is_read (held m b r c.args.column)) _
           (λ r b. ap (λ p. only p (held m b r c.args.column)) (sym e)) c.load.ensures.work;
     }
 
@@ -24,7 +24,7 @@ returns-else-is_read g c =
     let m = g.T.Tray.meaning c.args.tray.now in
     let e = c.if-is_read.false in
     record {
-      tray = column_none m c.args.column (g.T.Tray.wraps c.args.tray.now) ∙ ap (λ b. after_reads m (times c.args.column (cond b (rows c.args.k) 0))) (sym e);
-      work = filled_same c.args.size c.args.work.now c.args.first (rows c.args.k) _ (λ r b. only c.args.is_read (held m b r c.args.column)) _
+      tray = column_none m c.args.column (g.T.Tray.wraps c.args.tray.now) ∙ ap (λ b. after_reads m (times c.args.column (cond b (rows c.args.k.number) 0))) (sym e);
+      work = filled_same c.args.size c.args.work.now c.args.first (rows c.args.k.number) _ (λ r b. only c.args.is_read (held m b r c.args.column)) _
           (λ r b. ap (λ p. only p (held m b r c.args.column)) (sym e)) c.clear.ensures;
     }

@@ -2,25 +2,24 @@ use Rattle.std.proofs.Common.{length, arith}
 use Rattle.code.specs.Neighbours.{published}
 use Rattle.code.proofs.Limits.{a_width}
 use Rattle.shelf.specs.Missing.{is_out}
-use Rattle.shelf.proofs.Adding.{rows_are}
 use Rattle.shelf.proofs.Gathering.{gathered_reads, gathered_sums}
 use Rattle.shelf.proofs.gather.gather.Goals as goal
 
 pub overflow_add-k : goal.overflow_add-k
-overflow_add-k g c = let w = a_width c.args.k c.requires.room.width in omega arith
+overflow_add-k g c = let w = a_width c.args.k.number c.args.k.valid in omega arith
 
 pub overflow_add-k-2 : goal.overflow_add-k-2
-overflow_add-k-2 g c = let w = a_width c.args.k c.requires.room.width in omega arith
+overflow_add-k-2 g c = let w = a_width c.args.k.number c.args.k.valid in omega arith
 
 pub returns : goal.returns
 returns g c =
-    let k = c.args.k in
+    let k = c.args.k.number in
     let size = length c.args.block.now in
     let m = g.T.Tray.meaning c.args.tray.now in
-    let r = rows_are k _ _ c.requires.room c.rows_of.result c.rows_of.ensures in
+    let r = c.rows.ensures.value in
     record {
-      tray = gathered_reads k (published k) size (is_out c.args.out) m _ _ _ c.args.work.now _ _ _ _ _ c.rows_of.result c.reads_parity.ensures c.reads_parity-2.ensures r
+      tray = gathered_reads k (published k) size (is_out c.args.out) m _ _ _ c.args.work.now _ _ _ _ _ c.rows.result c.reads_parity.ensures c.reads_parity-2.ensures r
           c.begin.ensures.tray c.begin.ensures.work c.begin-2.ensures.tray c.begin-2.ensures.work c.gather_data.ensures.tray c.gather_data.ensures.work;
-      work = gathered_sums k (published k) size (is_out c.args.out) m _ _ _ c.args.work.now _ _ _ _ _ c.rows_of.result c.reads_parity.ensures c.reads_parity-2.ensures r
+      work = gathered_sums k (published k) size (is_out c.args.out) m _ _ _ c.args.work.now _ _ _ _ _ c.rows.result c.reads_parity.ensures c.reads_parity-2.ensures r
           c.begin.ensures.tray c.begin.ensures.work c.begin-2.ensures.tray c.begin-2.ensures.work c.gather_data.ensures.tray c.gather_data.ensures.work;
     }

@@ -9,4 +9,4 @@ use Rattle.shelf.proofs.gather.gather_column.Given as goal
 abbrev pub invariant-loop-row : goal.invariant-loop-row
 invariant-loop-row g l =
     (g.T.Tray.meaning l.tray ≡ after_reads (g.T.Tray.meaning l.initial.tray) (times l.column l.row))
-    × Summed l.k (published l.k) (length l.initial.block) l.initial.work (λ b. part l.column l.row (held (g.T.Tray.meaning l.initial.tray) b)) l.work
+    × Summed l.k.number (published l.k.number) (length l.initial.block) l.initial.work (λ b. part l.column l.row (held (g.T.Tray.meaning l.initial.tray) b)) l.work

@@ -10,7 +10,7 @@ use Rattle.shelf.proofs.gather.gather_data.Goals as goal
 pub loop-column-init : goal.loop-column-init
 loop-column-init g c =
     let m = g.T.Tray.meaning c.args.tray.now in
-    let k = c.args.k in
+    let k = c.args.k.number in
     let out = is_out c.args.out in (
       reads_none m (g.T.Tray.wraps c.args.tray.now) ∙ reads_same m (λ _. 0) (each_below out (rows k) 0) (λ x. sym (each_none out (rows k) x)),
       sums_none k (published k) (length c.args.block.now) c.args.work.now (λ b. served out 0 (held m b)) (λ b i x. served_none out (held m b) i x),
@@ -19,7 +19,7 @@ loop-column-init g c =
 pub loop-column-preserved : goal.loop-column-preserved
 loop-column-preserved g c =
     let m = g.T.Tray.meaning c.args.tray.now in
-    let k = c.args.k in
+    let k = c.args.k.number in
     let j = c.loop-column.column in
     let out = is_out c.args.out in
     let f : ℕ → ℕ = each_below out (rows k) j in (

@@ -10,5 +10,5 @@ use Rattle.shelf.proofs.gather.gather_data.Given as goal
 
 abbrev pub invariant-loop-column : goal.invariant-loop-column
 invariant-loop-column g l =
-    (g.T.Tray.meaning l.tray ≡ after_reads (g.T.Tray.meaning l.initial.tray) (each_below (is_out l.out) (rows l.k) l.column))
-    × Summed l.k (published l.k) (length l.initial.block) l.initial.work (λ b. served (is_out l.out) l.column (held (g.T.Tray.meaning l.initial.tray) b)) l.work
+    (g.T.Tray.meaning l.tray ≡ after_reads (g.T.Tray.meaning l.initial.tray) (each_below (is_out l.out) (rows l.k.number) l.column))
+    × Summed l.k.number (published l.k.number) (length l.initial.block) l.initial.work (λ b. served (is_out l.out) l.column (held (g.T.Tray.meaning l.initial.tray) b)) l.work

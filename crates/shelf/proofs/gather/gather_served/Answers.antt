@@ -10,7 +10,7 @@ use Rattle.shelf.proofs.gather.gather_served.Goals as goal
 pub returns-then-not-is_out : goal.returns-then-not-is_out
 returns-then-not-is_out g c =
     let m = g.T.Tray.meaning c.args.tray.now in
-    let k = c.args.k in
+    let k = c.args.k.number in
     let j = c.args.column in
     let out = is_out c.args.out in
     let o : out j ≡ false = sym c.is_out.ensures ∙ c.if-not-is_out.true in
@@ -24,7 +24,7 @@ returns-then-not-is_out g c =
 pub returns-else-not-is_out : goal.returns-else-not-is_out
 returns-else-not-is_out g c =
     let m = g.T.Tray.meaning c.args.tray.now in
-    let k = c.args.k in
+    let k = c.args.k.number in
     let j = c.args.column in
     let out = is_out c.args.out in
     let o : out j ≡ true = sym c.is_out.ensures ∙ c.if-not-is_out.false in

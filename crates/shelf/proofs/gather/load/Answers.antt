@@ -1,7 +1,7 @@
 use Rattle.std.proofs.Common.{ℕ, ◌+◌, cond, eqb, get_or, ap, ◌∙◌, arith}
 use Rattle.law.specs.Holding.{held}
 use Rattle.shelf.specs.Slots.{slot}
-use Rattle.shelf.proofs.Adding.{has_slot, room_kept, rows_are, filled_none, filled_more}
+use Rattle.shelf.proofs.Adding.{has_slot, room_kept, filled_none, filled_more}
 use Rattle.shelf.proofs.Gathering.{column_none, column_more, ready_still}
 use Rattle.shelf.proofs.gather.load.Goals as goal
 
@@ -12,7 +12,7 @@ loop-row-init g c =
 
 pub fetch_slot-requires : goal.fetch_slot-requires
 fetch_slot-requires g c =
-    let e = rows_are c.args.k _ _ c.requires.room _ c.rows_of-row-end.ensures in record { ready = ready_still c.args.k c.args.size _ _ _ c.args.column c.loop-row.row c.loop-row.invariant.0 c.requires.answers (omega arith); within = has_slot c.args.k c.args.size c.loop-row.work (room_kept _ _ _ _ c.requires.room c.loop-row.auto.work) (c.args.first + c.loop-row.row) (omega arith) }
+    let e = c.rows-row-end.ensures.value in record { ready = ready_still c.args.k.number c.args.size _ _ _ c.args.column c.loop-row.row c.loop-row.invariant.0 c.requires.answers (omega arith); within = has_slot c.args.k.number c.args.size c.loop-row.work (room_kept _ _ _ _ c.requires.room c.loop-row.auto.work) (c.args.first + c.loop-row.row) (omega arith) }
 
 pub loop-row-preserved : goal.loop-row-preserved
 loop-row-preserved g c =

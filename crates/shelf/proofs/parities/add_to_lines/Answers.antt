@@ -6,17 +6,17 @@ use Rattle.shelf.proofs.parities.add_to_lines.Goals as goal
 
 pub loop-through-init : goal.loop-through-init
 loop-through-init g c =
-    let k = c.args.k in
+    let k = c.args.k.number in
     added_none (length c.args.block.now) (g.T.Tray.meaning c.args.tray.now) c.args.block.now (lines_below k (published k) c.args.row.0 c.args.column 0)
     (below_none k (published k) c.args.row.0 c.args.column)
 
 pub add_to_line-requires : goal.add_to_line-requires
 add_to_line-requires g c =
-    let k = c.args.k in record { width = c.requires.width; answers = answers_still k (length c.args.block.now) (k + 1) (g.T.Tray.meaning c.args.tray.now) (g.T.Tray.meaning c.loop-through.tray) c.loop-through.invariant.frame c.requires.answers; row = c.requires.row; through = c.loop-through-test.true; scratch = c.loop-through.auto.scratch ∙ c.requires.scratch }
+    let k = c.args.k.number in record { answers = answers_still k (length c.args.block.now) (k + 1) (g.T.Tray.meaning c.args.tray.now) (g.T.Tray.meaning c.loop-through.tray) c.loop-through.invariant.frame c.requires.answers; row = c.requires.row; through = c.loop-through-test.true; scratch = c.loop-through.auto.scratch ∙ c.requires.scratch }
 
 pub loop-through-preserved : goal.loop-through-preserved
 loop-through-preserved g c =
-    let k = c.args.k in
+    let k = c.args.k.number in
     let i = c.args.row.0 in
     let j = c.args.column in
     let t = c.loop-through.through in
@@ -29,7 +29,7 @@ loop-through-preserved g c =
 
 pub returns : goal.returns
 returns g c =
-    let k = c.args.k in
+    let k = c.args.k.number in
     let i = c.args.row.0 in
     let j = c.args.column in
     let x = c.args.block.now in

@@ -6,5 +6,5 @@ use Rattle.shelf.proofs.parities.add_to_lines.Given as goal
 
 abbrev pub invariant-loop-through : goal.invariant-loop-through
 invariant-loop-through g l =
-    AddedAt (length l.block) (g.T.Tray.meaning l.initial.tray) l.block (lines_below l.k (published l.k) l.row.0 l.column l.through)
+    AddedAt (length l.block) (g.T.Tray.meaning l.initial.tray) l.block (lines_below l.k.number (published l.k.number) l.row.0 l.column l.through)
     (g.T.Tray.meaning l.tray)

@@ -8,21 +8,21 @@ use Rattle.shelf.proofs.Changing.{added_none, added_same, added_added, served_in
 use Rattle.shelf.proofs.parities.add_to_parities.Goals as goal
 
 pub overflow_add-k : goal.overflow_add-k
-overflow_add-k g c = let w = a_width c.args.k c.requires.width in omega arith
+overflow_add-k g c = let w = a_width c.args.k.number c.args.k.valid in omega arith
 
 pub add_to_lines-requires : goal.add_to_lines-requires
 add_to_lines-requires g c =
-    let k = c.args.k in
+    let k = c.args.k.number in
     let out = is_out c.args.out in
     let size = length c.args.block.now in
     let m' = g.T.Tray.meaning c.add_to_sum.new.tray in
     let o : out (k + 1) ≡ false = sym c.is_out.ensures ∙ c.if-not-is_out.true in
     let heard = heard_still k size out (g.T.Tray.meaning c.args.tray.now) m' c.add_to_sum.ensures.frame c.requires.heard in
-    record { width = c.requires.width; answers = heard_answers k size out m' (k + 1) heard (omega arith) o; row = c.requires.row; scratch = omega arith }
+    record { answers = heard_answers k size out m' (k + 1) heard (omega arith) o; row = c.requires.row; scratch = omega arith }
 
 pub returns-then-not-is_out : goal.returns-then-not-is_out
 returns-then-not-is_out g c =
-    let k = c.args.k in
+    let k = c.args.k.number in
     let i = c.args.row.0 in
     let j = c.args.column in
     let right = published k in
@@ -39,7 +39,7 @@ returns-then-not-is_out g c =
 
 pub returns-else-not-is_out : goal.returns-else-not-is_out
 returns-else-not-is_out g c =
-    let k = c.args.k in
+    let k = c.args.k.number in
     let i = c.args.row.0 in
     let j = c.args.column in
     let right = published k in

@@ -6,7 +6,7 @@ use Rattle.shelf.proofs.parities.add_to_sum.Goals as goal
 
 pub add_at-requires : goal.add_at-requires
 add_at-requires g c =
-    let k = c.args.k in
+    let k = c.args.k.number in
     let out = is_out c.args.out in
     let m = g.T.Tray.meaning c.args.tray.now in
     let size = length c.args.block.now in
@@ -15,7 +15,7 @@ add_at-requires g c =
 
 pub returns-then-not-is_out : goal.returns-then-not-is_out
 returns-then-not-is_out g c =
-    let k = c.args.k in
+    let k = c.args.k.number in
     let i = c.args.row.0 in
     let out = is_out c.args.out in
     let x = c.args.block.now in
@@ -25,7 +25,7 @@ returns-then-not-is_out g c =
 
 pub returns-else-not-is_out : goal.returns-else-not-is_out
 returns-else-not-is_out g c =
-    let k = c.args.k in
+    let k = c.args.k.number in
     let i = c.args.row.0 in
     let out = is_out c.args.out in
     let x = c.args.block.now in

@@ -8,7 +8,7 @@ use Rattle.shelf.proofs.recover.find.Goals as goal
 
 pub returns-in-One : goal.returns-in-One
 returns-in-One c =
-    let k = c.args.k in
+    let k = c.args.k.number in
     let a = c.in-One.field-0 in
     let high = false-ltb a k (sym (ap (is_sole_data k) (sym c.in-One.is) ∙ c.requires.several)) in
     found_parities k (published k) (length c.args.block.now) c.args.out

@@ -7,8 +7,8 @@ use Rattle.shelf.proofs.recover.find_data.Goals as goal
 
 pub solve-requires-else-is_right : goal.solve-requires-else-is_right
 solve-requires-else-is_right c =
-    let k = c.args.k in
-    let law = law_of_width k c.requires.room.width in record {
+    let k = c.args.k.number in
+    let law = law_of_width k c.args.k.valid in record {
       room = room_kept_for _ _ _ _ _ c.requires.room (omega arith) (omega arith);
       pair = record {
         first = c.requires.b;
@@ -20,7 +20,7 @@ solve-requires-else-is_right c =
 
 pub returns-then-is_right : goal.returns-then-is_right
 returns-then-is_right c =
-    let k = c.args.k in
+    let k = c.args.k.number in
     let a = c.args.a in
     let b = c.args.b in
     found_two k (published k) (length c.args.block.now) a b a b c.requires.a c.requires.b c.requires.a c.requires.b c.requires.apart (which_of k a b) (out_first k a b) (out_second k a b)
@@ -28,7 +28,7 @@ returns-then-is_right c =
 
 pub returns-else-is_right : goal.returns-else-is_right
 returns-else-is_right c =
-    let k = c.args.k in
+    let k = c.args.k.number in
     let a = c.args.a in
     let b = c.args.b in
     found_two k (published k) (length c.args.block.now) a b b a c.requires.a c.requires.b c.requires.b c.requires.a (λ e. c.requires.apart (sym e)) (which_back k a b) (out_second k a b) (out_first k a b)

@@ -1,27 +1,27 @@
 use Rattle.std.proofs.Common.{◌+◌, sym, ap, ◌∙◌, ap₂, arith}
 use Rattle.code.proofs.Limits.{a_width}
 use Rattle.code.proofs.Rows.{meets_lt}
-use Rattle.shelf.proofs.Recovered.{rows_of_width, by_rows, by_line, by_number}
+use Rattle.shelf.proofs.Recovered.{by_rows, by_line, by_number}
 use Rattle.shelf.proofs.recover.slot_for.Goals as goal
 
 pub returns-then-column-by : goal.returns-then-column-by
-returns-then-column-by c = record { value = sym (by_rows c.args.k c.args.by c.args.column c.args.row.0 c.if-column-by.true); within = omega arith }
+returns-then-column-by c = record { value = sym (by_rows c.args.k.number c.args.by c.args.column c.args.row.0 c.if-column-by.true); within = omega arith }
 
 pub returns-then-column-k : goal.returns-then-column-k
 returns-then-column-k c =
-    let w = a_width c.args.k c.requires.width in
-    let r = rows_of_width c.args.k c.requires.width c.rows_of.result c.rows_of.ensures in
+    let w = a_width c.args.k.number c.args.k.valid in
+    let r = c.rows.ensures.value in
     let e = c.line.ensures.within (omega arith) in
-    let l = meets_lt c.args.k c.args.row.0 c.args.column c.requires.row c.if-column-k.true in
+    let l = meets_lt c.args.k.number c.args.row.0 c.args.column c.requires c.if-column-k.true in
     record {
-      value = ap₂ (λ x y. x + y) r e ∙ sym (by_line c.args.k c.args.by c.args.column c.args.row.0 c.if-column-by.false c.if-column-k.true);
+      value = ap₂ (λ x y. x + y) r e ∙ sym (by_line c.args.k.number c.args.by c.args.column c.args.row.0 c.if-column-by.false c.if-column-k.true);
       within = omega arith;
     }
 
 pub returns-else-column-k : goal.returns-else-column-k
 returns-else-column-k c =
-    let r = rows_of_width c.args.k c.requires.width c.rows_of-else-column-k.result c.rows_of-else-column-k.ensures in
+    let r = c.rows-else-column-k.ensures.value in
     record {
-      value = ap (λ x. x + c.args.row.0) r ∙ sym (by_number c.args.k c.args.by c.args.column c.args.row.0 c.if-column-by.false c.if-column-k.false);
+      value = ap (λ x. x + c.args.row.0) r ∙ sym (by_number c.args.k.number c.args.by c.args.column c.args.row.0 c.if-column-by.false c.if-column-k.false);
       within = omega arith;
     }

@@ -13,9 +13,9 @@ use Rattle.shelf.proofs.regain.add_meeting.Goals as goal
 
 pub add_taken-requires : goal.add_taken-requires
 add_taken-requires g c =
-    let k = c.args.k in
+    let k = c.args.k.number in
     let t = c.args.through in
-    let w = a_width k c.requires.alone.width in
+    let w = a_width k c.args.k.valid in
     let e : c.meeting.result.0 ≡ meets c.args.line.0 t = c.meeting.ensures.within (omega arith) in
     let l = meets_lt k c.args.line.0 t c.requires.line c.requires.through in
     let l' : c.meeting.result.0 < rows k = omega arith in
@@ -24,11 +24,11 @@ add_taken-requires g c =
 pub returns-then-through-lost : goal.returns-then-through-lost
 returns-then-through-lost g c =
     let m = g.T.Tray.meaning c.args.tray.now in
-    let k = c.args.k in
+    let k = c.args.k.number in
     let j = c.args.lost in
     let n = c.args.line.0 in
     let t = c.args.through in
-    let w = a_width k c.requires.alone.width in
+    let w = a_width k c.args.k.valid in
     let e : c.meeting.result.0 ≡ meets n t = c.meeting.ensures.within (omega arith) in
     let ne : t ≢ j = omega arith in
     record {
@@ -42,7 +42,7 @@ returns-then-through-lost g c =
 pub returns-else-through-lost : goal.returns-else-through-lost
 returns-else-through-lost g c =
     let m = g.T.Tray.meaning c.args.tray.now in
-    let k = c.args.k in
+    let k = c.args.k.number in
     let j = c.args.lost in
     let t = c.args.through in
     let e : t ≡ j = omega arith in

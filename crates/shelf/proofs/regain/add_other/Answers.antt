@@ -17,22 +17,22 @@ use Rattle.shelf.proofs.regain.add_other.Goals as goal
 
 pub fetch-requires : goal.fetch-requires
 fetch-requires g c =
-    may_read c.args.k _ _ c.args.lost c.requires.alone c.args.column c.args.row.0 _ (omega arith) (omega arith) c.requires.row refl
+    may_read c.args.k.number _ _ c.args.lost c.requires.alone c.args.column c.args.row.0 _ (omega arith) (omega arith) c.requires.row refl
 
 pub add-requires : goal.add-requires
 add-requires g c =
     let e : length c.args.block.now ≡ length c.fetch.new.block = omega arith in
     subst (λ s. (c.args.row.0 + 1) * s ≤ length c.args.work.now) e
-    (has_slot c.args.k (length c.args.block.now) c.args.work.now c.requires.room c.args.row.0 (omega arith))
+    (has_slot c.args.k.number (length c.args.block.now) c.args.work.now c.requires.room c.args.row.0 (omega arith))
 
 pub add_to_lines-requires : goal.add_to_lines-requires
 add_to_lines-requires g c =
-    record { room = room_still c.args.k (length c.args.block.now) _ c.args.work.now _ (omega arith) (omega arith) c.requires.room; row = c.requires.row }
+    record { room = room_still c.args.k.number (length c.args.block.now) _ c.args.work.now _ (omega arith) (omega arith) c.requires.room; row = c.requires.row }
 
 pub returns-then-column-lost : goal.returns-then-column-lost
 returns-then-column-lost g c =
     let m = g.T.Tray.meaning c.args.tray.now in
-    let k = c.args.k in
+    let k = c.args.k.number in
     let i = c.args.row.0 in
     let j = c.args.lost in
     let t = c.args.column in
@@ -47,7 +47,7 @@ returns-then-column-lost g c =
       work = subst (λ s. Plus k s was (λ b r. only (eqb r i) (unless m i j t b)) (λ b. lines_but k (published k) i j (spot i t (unless m i j t b))) c.add_to_lines.new.work) e
           (plus_same k (length x) was _ _ _ _ _
           (λ b r _ _. xor_zero_r (only (eqb r i) (get_or x b 0)) ∙ ap (only (eqb r i)) (known b))
-          (λ b n _ _. to_lines_but k (published k) i j (law_of_width k c.requires.room.width) t c.requires.column x b n ∙ ap (λ y. lines_but k (published k) i j (spot i t y) n) (known b))
+          (λ b n _ _. to_lines_but k (published k) i j (law_of_width k c.args.k.valid) t c.requires.column x b n ∙ ap (λ y. lines_but k (published k) i j (spot i t y) n) (known b))
           (plus_plus k (length x) was (λ b r. only (eqb r i) (get_or x b 0)) nothing nothing (to_lines k (published k) i t j x) c.add.new.work c.add_to_lines.new.work
           (plus_row k (length x) was x c.add.new.work i c.requires.row c.add.ensures) c.add_to_lines.ensures));
     }
@@ -56,7 +56,7 @@ pub returns-else-column-lost : goal.returns-else-column-lost
 unfolding spot
 returns-else-column-lost g c =
     let m = g.T.Tray.meaning c.args.tray.now in
-    let k = c.args.k in
+    let k = c.args.k.number in
     let i = c.args.row.0 in
     let j = c.args.lost in
     let t = c.args.column in

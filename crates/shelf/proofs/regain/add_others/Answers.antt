@@ -8,7 +8,7 @@ pub loop-column-init : goal.loop-column-init
 loop-column-init g c =
     let m = g.T.Tray.meaning c.args.tray.now in (
       once_none m c.args.lost (g.T.Tray.wraps c.args.tray.now),
-      others_none c.args.k (published c.args.k) (length c.args.block.now) c.args.row.0 c.args.lost m c.args.work.now,
+      others_none c.args.k.number (published c.args.k.number) (length c.args.block.now) c.args.row.0 c.args.lost m c.args.work.now,
     )
 
 pub add_other-requires : goal.add_other-requires
@@ -21,12 +21,12 @@ loop-column-preserved g c =
     let j = c.args.lost in
     let t = c.loop-column.column in (
       reads_after m m' _ (once_below j t) _ _ c.loop-column.invariant.0 c.add_other.ensures.tray (once_more j t),
-      others_more c.args.k (published c.args.k) (length c.args.block.now) (length c.loop-column.block) c.args.row.0 j t m m' (once_below j t)
+      others_more c.args.k.number (published c.args.k.number) (length c.args.block.now) (length c.loop-column.block) c.args.row.0 j t m m' (once_below j t)
           c.args.work.now c.loop-column.work c.add_other.new.work c.loop-column.auto.block c.loop-column.invariant.0 c.loop-column.invariant.1 c.add_other.ensures.work,
     )
 
 pub returns : goal.returns
 returns g c =
-    let e : c.loop-column.column ≡ c.args.k = omega arith in
+    let e : c.loop-column.column ≡ c.args.k.number = omega arith in
     let h = rw e at c.loop-column.invariant in
     record { tray = h.0; work = h.1 }

@@ -12,5 +12,5 @@ use Rattle.shelf.proofs.regain.add_others.Given as goal
 abbrev pub invariant-loop-column : goal.invariant-loop-column
 invariant-loop-column g l =
     (g.T.Tray.meaning l.tray ≡ after_reads (g.T.Tray.meaning l.initial.tray) (once_below l.lost l.column))
-    × Plus l.k (length l.initial.block) l.initial.work (λ b r. only (eqb r l.row.0) (others l.column l.lost (held (g.T.Tray.meaning l.initial.tray) b l.row.0)))
-    (λ b. lines_but l.k (published l.k) l.row.0 l.lost (row_of l.row.0 (below l.lost l.column (held (g.T.Tray.meaning l.initial.tray) b)))) l.work
+    × Plus l.k.number (length l.initial.block) l.initial.work (λ b r. only (eqb r l.row.0) (others l.column l.lost (held (g.T.Tray.meaning l.initial.tray) b l.row.0)))
+    (λ b. lines_but l.k.number (published l.k.number) l.row.0 l.lost (row_of l.row.0 (below l.lost l.column (held (g.T.Tray.meaning l.initial.tray) b)))) l.work

@@ -12,7 +12,7 @@ use Rattle.shelf.proofs.regain.add_taken.Goals as goal
 
 pub add_if-requires : goal.add_if-requires
 add_if-requires g c =
-    let k = c.args.k in
+    let k = c.args.k.number in
     let jk = c.requires.alone.column in
     record { ready = λ _. may_read k _ _ c.args.lost c.requires.alone k c.args.row.0 _ (omega arith) (omega arith) c.requires.row c.requires.scratch; scratch = c.requires.scratch }
 
@@ -26,7 +26,7 @@ pub add_if-requires-in-loop-column : goal.add_if-requires-in-loop-column
 add_if-requires-in-loop-column g c =
     let m = g.T.Tray.meaning c.args.tray.now in
     let m' = g.T.Tray.meaning c.loop-column.tray in
-    let k = c.args.k in
+    let k = c.args.k.number in
     let i = c.args.row.0 in
     let j = c.args.lost in
     let t = c.loop-column.column in
@@ -37,7 +37,7 @@ pub loop-column-preserved : goal.loop-column-preserved
 loop-column-preserved g c =
     let m = g.T.Tray.meaning c.add_if.new.tray in
     let m' = g.T.Tray.meaning c.loop-column.tray in
-    let right = published c.args.k in
+    let right = published c.args.k.number in
     let i = c.args.row.0 in
     let j = c.args.lost in
     let t = c.loop-column.column in
@@ -54,7 +54,7 @@ pub returns : goal.returns
 returns g c =
     let m = g.T.Tray.meaning c.args.tray.now in
     let m' = g.T.Tray.meaning c.add_if.new.tray in
-    let k = c.args.k in
+    let k = c.args.k.number in
     let right = published k in
     let i = c.args.row.0 in
     let j = c.args.lost in
@@ -68,7 +68,7 @@ returns g c =
       block = bytes_more (length was) was (λ b. only c.is_taken.result (held m b i k)) (λ b. xorsum k (λ c'. only (wants right i t j c') (held m b i c'))) (λ b. taken k right (held m b) j i t)
           c.add_if.new.block c.loop-column.block
           (λ b. ap (λ w. bit_xor (only w (held m b i k)) (xorsum k (λ c'. only (wants right i t j c') (held m b i c')))) c.is_taken.ensures
-          ∙ taken_wanted k right (law_of_width k c.requires.alone.width) i t c.requires.through (held m b) j c.requires.alone.column)
+          ∙ taken_wanted k right (law_of_width k c.args.k.valid) i t c.requires.through (held m b) j c.requires.alone.column)
           c.add_if.ensures.block
           (bytes_calm (λ h b. xorsum k (λ c'. only (wants right i t j c') (h b i c'))) m m' (length c.add_if.new.block) (length was) c.add_if.new.block c.loop-column.block calm e'
           (rw e at c.loop-column.invariant.1));

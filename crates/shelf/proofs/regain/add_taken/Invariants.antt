@@ -10,4 +10,4 @@ abbrev pub invariant-loop-column : goal.invariant-loop-column
 invariant-loop-column g l =
     Calm (g.T.Tray.meaning l.initial.tray) (g.T.Tray.meaning l.tray)
     × BytesAdded (length l.initial.block) l.initial.block
-    (λ b. xorsum l.column (λ c. only (wants (published l.k) l.row.0 l.through l.lost c) (held (g.T.Tray.meaning l.initial.tray) b l.row.0 c))) l.block
+    (λ b. xorsum l.column (λ c. only (wants (published l.k.number) l.row.0 l.through l.lost c) (held (g.T.Tray.meaning l.initial.tray) b l.row.0 c))) l.block

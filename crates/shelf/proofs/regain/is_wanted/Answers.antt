@@ -9,7 +9,7 @@ use Rattle.shelf.proofs.regain.is_wanted.Goals as goal
 pub returns-then-column-lost : goal.returns-then-column-lost
 unfolding wants
 returns-then-column-lost c =
-    let right = published c.args.k in
+    let right = published c.args.k.number in
     let i = c.args.row.0 in
     let t = c.args.through in
     ap₂ (λ a b. not (beq a b)) c.is_taken.ensures c.is_taken-then-column-lost.ensures
@@ -18,7 +18,7 @@ returns-then-column-lost c =
 pub returns-else-column-lost : goal.returns-else-column-lost
 unfolding wants
 returns-else-column-lost c =
-    let right = published c.args.k in
+    let right = published c.args.k.number in
     let i = c.args.row.0 in
     let t = c.args.through in
     let e : c.args.column ≡ c.args.lost = omega arith in

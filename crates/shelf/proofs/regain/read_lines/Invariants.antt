@@ -9,5 +9,5 @@ use Rattle.shelf.proofs.regain.read_lines.Given as goal
 
 abbrev pub invariant-loop-row : goal.invariant-loop-row
 invariant-loop-row g l =
-    (g.T.Tray.meaning l.tray ≡ after_reads (g.T.Tray.meaning l.initial.tray) (times (l.k + 1) (l.row - count l.row (λ i. dark i l.lost))))
-    × LinesRead l.k l.size l.lost (held (g.T.Tray.meaning l.initial.tray)) l.row l.work
+    (g.T.Tray.meaning l.tray ≡ after_reads (g.T.Tray.meaning l.initial.tray) (times (l.k.number + 1) (l.row - count l.row (λ i. dark i l.lost))))
+    × LinesRead l.k.number l.size l.lost (held (g.T.Tray.meaning l.initial.tray)) l.row l.work

@@ -13,10 +13,10 @@ use Rattle.shelf.proofs.regain.regain.Goals as goal
 pub returns : goal.returns
 returns g c =
     let m = g.T.Tray.meaning c.args.tray.now in
-    let k = c.args.k in
+    let k = c.args.k.number in
     let j = c.args.column in
     let size = length c.args.block.now in
-    let w = a_width k c.requires.room.width in
+    let w = a_width k c.args.k.valid in
     let jk = c.requires.alone.column in
     let e = c.read_lines.ensures.tray in
     record {

@@ -11,9 +11,9 @@ use Rattle.shelf.proofs.regain.regain_block.Goals as goal
 
 pub regain_by_line-requires : goal.regain_by_line-requires
 regain_by_line-requires g c =
-    let k = c.args.k in
+    let k = c.args.k.number in
     let j = c.args.column in
-    let w = a_width k c.requires.alone.width in
+    let w = a_width k c.args.k.valid in
     let jk = c.requires.alone.column in
     let e : c.line.result.0 ≡ meets c.args.row.0 j = c.line.ensures.within (omega arith) in
     let l = meets_lt k c.args.row.0 j c.requires.row jk in
@@ -24,7 +24,7 @@ pub returns-then-is_dark : goal.returns-then-is_dark
 unfolding regained
 returns-then-is_dark g c =
     let m = g.T.Tray.meaning c.args.tray.now in
-    let k = c.args.k in
+    let k = c.args.k.number in
     let i = c.args.row.0 in
     let j = c.args.column in
     record {
@@ -39,11 +39,11 @@ pub returns-else-is_dark : goal.returns-else-is_dark
 unfolding regained by_line
 returns-else-is_dark g c =
     let m = g.T.Tray.meaning c.args.tray.now in
-    let k = c.args.k in
+    let k = c.args.k.number in
     let right = published k in
     let i = c.args.row.0 in
     let j = c.args.column in
-    let w = a_width k c.requires.alone.width in
+    let w = a_width k c.args.k.valid in
     let jk = c.requires.alone.column in
     let e : c.line.result.0 ≡ meets i j = c.line.ensures.within (omega arith) in
     record {

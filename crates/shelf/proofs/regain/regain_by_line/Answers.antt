@@ -12,11 +12,11 @@ use Rattle.shelf.proofs.OneBlock.{calm_refl, calm_read, calm_then, calm_held, al
 use Rattle.shelf.proofs.regain.regain_by_line.Goals as goal
 
 pub overflow_add-k : goal.overflow_add-k
-overflow_add-k g c = let w = a_width c.args.k c.requires.alone.width in search rules
+overflow_add-k g c = let w = a_width c.args.k.number c.args.k.valid in search rules
 
 pub fetch-requires : goal.fetch-requires
 fetch-requires g c =
-    let k = c.args.k in
+    let k = c.args.k.number in
     let jk = c.requires.alone.column in
     may_read k _ _ c.args.lost c.requires.alone (k + 1) c.args.line.0 _ (omega arith) (omega arith) c.requires.line refl
 
@@ -24,7 +24,7 @@ pub add_meeting-requires : goal.add_meeting-requires
 add_meeting-requires g c =
     let m = g.T.Tray.meaning c.args.tray.now in
     let m' = g.T.Tray.meaning c.loop-through.tray in
-    let k = c.args.k in
+    let k = c.args.k.number in
     let calm : Calm m m' = calm_then m _ m' (calm_read m _ (k + 1) c.fetch.ensures.tray) c.loop-through.invariant.0 in
     let e : length c.loop-through.scratch ≡ length c.loop-through.block = omega arith in
     record { alone = alone_calm k _ _ m m' c.args.lost (omega arith) calm c.requires.alone; scratch = e; line = c.requires.line; through = c.loop-through-test.true }
@@ -39,7 +39,7 @@ pub loop-through-preserved : goal.loop-through-preserved
 loop-through-preserved g c =
     let m = g.T.Tray.meaning c.fetch.new.tray in
     let m' = g.T.Tray.meaning c.loop-through.tray in
-    let k = c.args.k in
+    let k = c.args.k.number in
     let j = c.args.lost in
     let n = c.args.line.0 in
     let t = c.loop-through.through in
@@ -56,7 +56,7 @@ pub returns : goal.returns
 returns g c =
     let m = g.T.Tray.meaning c.args.tray.now in
     let m' = g.T.Tray.meaning c.fetch.new.tray in
-    let k = c.args.k in
+    let k = c.args.k.number in
     let j = c.args.lost in
     let n = c.args.line.0 in
     let calm : Calm m m' = calm_read m m' (k + 1) c.fetch.ensures.tray in

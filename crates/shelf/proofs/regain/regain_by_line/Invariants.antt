@@ -11,4 +11,4 @@ abbrev pub invariant-loop-through : goal.invariant-loop-through
 invariant-loop-through g l =
     Calm (g.T.Tray.meaning l.initial.tray) (g.T.Tray.meaning l.tray)
     × BytesAdded (length l.initial.block) l.initial.block
-    (λ b. others l.through l.lost (λ c. taken l.k (published l.k) (held (g.T.Tray.meaning l.initial.tray) b) l.lost (meets l.line.0 c) c)) l.block
+    (λ b. others l.through l.lost (λ c. taken l.k.number (published l.k.number) (held (g.T.Tray.meaning l.initial.tray) b) l.lost (meets l.line.0 c) c)) l.block

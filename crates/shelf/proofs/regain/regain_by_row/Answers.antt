@@ -9,7 +9,7 @@ use Rattle.shelf.proofs.regain.regain_by_row.Goals as goal
 
 pub fetch-requires : goal.fetch-requires
 fetch-requires g c =
-    let k = c.args.k in
+    let k = c.args.k.number in
     let jk = c.requires.alone.column in
     may_read k _ _ c.args.lost c.requires.alone k c.args.row.0 _ (omega arith) (omega arith) c.requires.row refl
 
@@ -17,7 +17,7 @@ pub add_if-requires : goal.add_if-requires
 add_if-requires g c =
     let m = g.T.Tray.meaning c.args.tray.now in
     let m' = g.T.Tray.meaning c.loop-column.tray in
-    let k = c.args.k in
+    let k = c.args.k.number in
     let j = c.args.lost in
     let t = c.loop-column.column in
     let calm : Calm m m' = calm_then m _ m' (calm_read m _ k c.fetch.ensures.tray) c.loop-column.invariant.0 in
@@ -49,7 +49,7 @@ unfolding by_row
 returns g c =
     let m = g.T.Tray.meaning c.args.tray.now in
     let m' = g.T.Tray.meaning c.fetch.new.tray in
-    let k = c.args.k in
+    let k = c.args.k.number in
     let i = c.args.row.0 in
     let j = c.args.lost in
     let calm : Calm m m' = calm_read m m' k c.fetch.ensures.tray in

@@ -9,7 +9,7 @@ use Rattle.shelf.proofs.regain.regain_if_dark.Goals as goal
 pub returns-then-is_dark : goal.returns-then-is_dark
 returns-then-is_dark g c =
     let m = g.T.Tray.meaning c.args.tray.now in
-    let k = c.args.k in
+    let k = c.args.k.number in
     let j = c.args.lost in
     let d = c.if-is_dark.ensures in
     record {
@@ -21,7 +21,7 @@ returns-then-is_dark g c =
 pub returns-else-is_dark : goal.returns-else-is_dark
 returns-else-is_dark g c =
     let m = g.T.Tray.meaning c.args.tray.now in
-    let k = c.args.k in
+    let k = c.args.k.number in
     let j = c.args.lost in
     let d = c.if-is_dark.ensures in
     record {

@@ -13,14 +13,14 @@ use Rattle.shelf.proofs.regain.regain_row.Goals as goal
 
 pub fetch_slot-requires : goal.fetch_slot-requires
 fetch_slot-requires g c =
-    let k = c.args.k in
+    let k = c.args.k.number in
     let i = c.args.row.0 in
     let jk = c.requires.alone.column in
     record { ready = may_read k _ _ c.args.lost c.requires.alone k i _ (omega arith) (omega arith) c.requires.row refl; within = has_slot k _ _ c.requires.room i (omega arith) }
 
 pub copy_slot-requires : goal.copy_slot-requires
 copy_slot-requires g c =
-    let k = c.args.k in
+    let k = c.args.k.number in
     let i = c.args.row.0 in
     has_slot k (length c.add_others.new.block) c.add_others.new.work
     (room_still k (length c.args.block.now) _ c.args.work.now _ (omega arith) (omega arith) c.requires.room) i (omega arith)
@@ -29,7 +29,7 @@ pub returns : goal.returns
 returns g c =
     let m = g.T.Tray.meaning c.args.tray.now in
     let m' = g.T.Tray.meaning c.fetch_slot.new.tray in
-    let k = c.args.k in
+    let k = c.args.k.number in
     let right = published k in
     let size = length c.args.block.now in
     let i = c.args.row.0 in
@@ -44,7 +44,7 @@ returns g c =
     let h' : length x ≡ size = omega arith in
     record {
       tray = reads_after m m' _ (times k 1) (once_below j k) _ e c.add_others.ensures.tray (λ c'. row_reads k j c' jk);
-      work = row_found k right (law_of_width k c.requires.room.width) size m i j jk c.requires.row c.args.work.now w₁ w₂ w₃ x c.fetch_slot.ensures.work
+      work = row_found k right (law_of_width k c.args.k.valid) size m i j jk c.requires.row c.args.work.now w₁ w₂ w₃ x c.fetch_slot.ensures.work
           (subst (λ y. Plus k size w₁ (λ b r. only (eqb r i) (others k j (held y b i))) (λ b. lines_but k right i j (row_of i (below j k (held y b)))) w₂) e c.add_others.ensures.work)
           (subst (λ s. IsSlot s w₂ i x) h c.copy_slot.ensures)
           (subst (λ s. Plus k s w₂ nothing (to_lines k right i j j x) w₃) h' c.add_to_lines.ensures);

@@ -10,5 +10,5 @@ use Rattle.shelf.proofs.regain.regain_rows.Given as goal
 
 abbrev pub invariant-loop-row : goal.invariant-loop-row
 invariant-loop-row g l =
-    (g.T.Tray.meaning l.tray ≡ after_reads (g.T.Tray.meaning l.initial.tray) (of_rows l.k l.lost (count l.row (λ i. dark i l.lost))))
-    × Halfway l.k (published l.k) (length l.initial.block) l.lost (held (g.T.Tray.meaning l.initial.tray)) l.row l.work
+    (g.T.Tray.meaning l.tray ≡ after_reads (g.T.Tray.meaning l.initial.tray) (of_rows l.k.number l.lost (count l.row (λ i. dark i l.lost))))
+    × Halfway l.k.number (published l.k.number) (length l.initial.block) l.lost (held (g.T.Tray.meaning l.initial.tray)) l.row l.work

@@ -5,19 +5,19 @@ use Rattle.shelf.proofs.Ranks.{first_rank, last_rank, no_right}
 use Rattle.shelf.proofs.solve.solve.Goals as goal
 
 pub overflow_mul-at-end : goal.overflow_mul-at-end
-overflow_mul-at-end c = let w = a_width c.args.k c.requires.room.width in omega arith
+overflow_mul-at-end c = let w = a_width c.args.k.number c.args.k.valid in omega arith
 
 pub overflow_add-at-end : goal.overflow_add-at-end
-overflow_add-at-end c = let w = a_width c.args.k c.requires.room.width in omega arith
+overflow_add-at-end c = let w = a_width c.args.k.number c.args.k.valid in omega arith
 
 pub loop-at-init : goal.loop-at-init
 loop-at-init c = λ D old.
-    let k = c.args.k in
-    first_rank k (published k) (law_of_width k c.requires.room.width) (no_right k) c.args.p c.args.q c.requires.pair (length c.args.block.now) D c.args.work.now old
+    let k = c.args.k.number in
+    first_rank k (published k) (law_of_width k c.args.k.valid) (no_right k) c.args.p c.args.q c.requires.pair (length c.args.block.now) D c.args.work.now old
 
 pub returns : goal.returns
 returns c = λ D old.
-    let k = c.args.k in
+    let k = c.args.k.number in
     let e : c.loop-at.at ≡ 2 * k + 2 = omega arith in
-    last_rank k (published k) (law_of_width k c.requires.room.width) (no_right k) c.args.p c.args.q c.requires.pair (length c.args.block.now) D
+    last_rank k (published k) (law_of_width k c.args.k.valid) (no_right k) c.args.p c.args.q c.requires.pair (length c.args.block.now) D
     c.loop-at.work (rw e at (c.loop-at.invariant D old))

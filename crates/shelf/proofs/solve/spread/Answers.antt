@@ -2,29 +2,29 @@ use Rattle.std.proofs.Common.{◌≡◌, length, arith}
 use Rattle.code.specs.Code.{rows}
 use Rattle.code.specs.Neighbours.{published}
 use Rattle.code.proofs.Limits.{law_of_width}
-use Rattle.shelf.proofs.Adding.{has_slot_for, room_kept, rows_are}
+use Rattle.shelf.proofs.Adding.{has_slot_for, room_kept}
 use Rattle.shelf.proofs.Spreading.{spread_none, spread_more, spread_all}
 use Rattle.shelf.proofs.solve.spread.Goals as goal
 
 pub loop-row-init : goal.loop-row-init
-loop-row-init c = spread_none c.args.k (published c.args.k) (law_of_width _ c.requires.room.width) (length c.args.block.now) c.args.work.now c.args.column c.requires.column
+loop-row-init c = spread_none c.args.k.number (published c.args.k.number) (law_of_width _ c.args.k.valid) (length c.args.block.now) c.args.work.now c.args.column c.requires.column
 
 pub copy_slot-requires : goal.copy_slot-requires
 copy_slot-requires c =
-    let e = rows_are c.args.k _ _ c.requires.room _ c.rows_of-row-end.ensures in
-    has_slot_for c.args.k (length c.args.block.now) (length c.loop-row.block) c.loop-row.work (room_kept _ _ _ _ c.requires.room c.loop-row.auto.work)
+    let e = c.rows-row-end.ensures.value in
+    has_slot_for c.args.k.number (length c.args.block.now) (length c.loop-row.block) c.loop-row.work (room_kept _ _ _ _ c.requires.room c.loop-row.auto.work)
     c.loop-row.auto.block c.loop-row.row (omega arith)
 
 pub loop-row-preserved : goal.loop-row-preserved
 loop-row-preserved c =
-    let e = rows_are c.args.k _ _ c.requires.room _ c.rows_of-row-end.ensures in
-    spread_more c.args.k (published c.args.k) (law_of_width _ c.requires.room.width) (length c.args.block.now) c.args.work.now c.args.column c.requires.column
+    let e = c.rows-row-end.ensures.value in
+    spread_more c.args.k.number (published c.args.k.number) (law_of_width _ c.args.k.valid) (length c.args.block.now) c.args.work.now c.args.column c.requires.column
     c.loop-row.row (length c.copy_slot.new.block) (length c.loop-row.block) c.copy_slot.new.block c.loop-row.work c.add_to_lines.new.work
     (omega arith) (omega arith) c.loop-row.auto.block c.loop-row.invariant c.copy_slot.ensures c.add_to_lines.ensures
 
 pub returns : goal.returns
 returns c =
-    let r = rows_are c.args.k _ _ c.requires.room _ c.rows_of-row-end.ensures in
-    let e : c.loop-row.row ≡ rows c.args.k = omega arith in
-    spread_all c.args.k (published c.args.k) (law_of_width _ c.requires.room.width) (length c.args.block.now) c.args.work.now c.args.column c.requires.column c.loop-row.work
+    let r = c.rows-row-end.ensures.value in
+    let e : c.loop-row.row ≡ rows c.args.k.number = omega arith in
+    spread_all c.args.k.number (published c.args.k.number) (law_of_width _ c.args.k.valid) (length c.args.block.now) c.args.work.now c.args.column c.requires.column c.loop-row.work
     (rw e at c.loop-row.invariant)

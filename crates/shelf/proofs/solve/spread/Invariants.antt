@@ -9,5 +9,5 @@ use Rattle.shelf.proofs.solve.spread.Given as goal
 
 abbrev pub invariant-loop-row : goal.invariant-loop-row
 invariant-loop-row l =
-    Plus l.k (length l.initial.block) l.initial.work nothing
-    (λ b. butterfly l.k (published l.k) (part l.column l.row (from_rows (length l.initial.block) l.initial.work l.column b))) l.work
+    Plus l.k.number (length l.initial.block) l.initial.work nothing
+    (λ b. butterfly l.k.number (published l.k.number) (part l.column l.row (from_rows (length l.initial.block) l.initial.work l.column b))) l.work

@@ -9,16 +9,16 @@ use Rattle.shelf.proofs.Holding.{row_of_one, lines_of_one}
 use Rattle.shelf.proofs.sums.add_place.Goals as goal
 
 pub add-requires : goal.add-requires
-add-requires c = has_slot c.args.k _ _ c.requires.room c.args.row.0 (omega arith)
+add-requires c = has_slot c.args.k.number _ _ c.requires.room c.args.row.0 (omega arith)
 
 pub returns : goal.returns
 returns c =
-    let k = c.args.k in
+    let k = c.args.k.number in
     let right = published k in
     let i = c.args.row.0 in
     let j = c.args.column in
     let x = c.args.block.now in
-    let law = law_of_width k c.requires.room.width in
+    let law = law_of_width k c.args.k.valid in
     plus_same k (length x) c.args.work.now _ _ _ _ _
     (λ b r _ _. xor_zero_r (only (eqb r i) (get_or x b 0)) ∙ row_of_one k right law i j c.requires.row c.requires.column x b r)
     (λ b n _ nl. lines_of_one k right law i j c.requires.row c.requires.column x b n nl)

@@ -7,15 +7,15 @@ use Rattle.shelf.proofs.sums.add_to_lines.Goals as goal
 
 pub loop-through-init : goal.loop-through-init
 loop-through-init c =
-    plus_same _ _ _ nothing nothing nothing (passed _ _ _ _ _ 0) _ (λ _ _ _ _. refl) (λ b n _ _. sym (passed_none (published c.args.k) c.args.row.0 c.args.column c.args.skip c.args.block.now b n))
-    (plus_none c.args.k (length c.args.block.now) c.args.work.now)
+    plus_same _ _ _ nothing nothing nothing (passed _ _ _ _ _ 0) _ (λ _ _ _ _. refl) (λ b n _ _. sym (passed_none (published c.args.k.number) c.args.row.0 c.args.column c.args.skip c.args.block.now b n))
+    (plus_none c.args.k.number (length c.args.block.now) c.args.work.now)
 
 pub add_through-requires : goal.add_through-requires
 add_through-requires c = record { room = room_kept _ _ _ _ c.requires.room c.loop-through.auto.work; row = c.requires.row; through = c.loop-through-test.true }
 
 pub loop-through-preserved : goal.loop-through-preserved
 loop-through-preserved c =
-    let k = c.args.k in
+    let k = c.args.k.number in
     let right = published k in
     let i = c.args.row.0 in
     let j = c.args.column in
@@ -27,7 +27,7 @@ loop-through-preserved c =
 
 pub returns : goal.returns
 returns c =
-    let k = c.args.k in
+    let k = c.args.k.number in
     let right = published k in
     let i = c.args.row.0 in
     let j = c.args.column in

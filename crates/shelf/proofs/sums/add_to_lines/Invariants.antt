@@ -6,4 +6,4 @@ use Rattle.shelf.proofs.sums.add_to_lines.Given as goal
 
 abbrev pub invariant-loop-through : goal.invariant-loop-through
 invariant-loop-through l =
-    Plus l.k (length l.block) l.initial.work nothing (passed (published l.k) l.row.0 l.column l.skip l.block l.through) l.work
+    Plus l.k.number (length l.block) l.initial.work nothing (passed (published l.k.number) l.row.0 l.column l.skip l.block l.through) l.work

@@ -11,7 +11,7 @@ pub returns : goal.returns
 returns g c =
     let m = g.T.Tray.meaning c.args.tray.now in
     let m' = g.T.Tray.meaning c.gather.new.tray in
-    let k = c.args.k in
+    let k = c.args.k.number in
     let size = length c.args.block.now in
     let work = c.gather.new.work in
     record {

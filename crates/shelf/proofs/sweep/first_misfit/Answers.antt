@@ -1,26 +1,26 @@
 use Rattle.std.proofs.Common.{◌≡◌, ℕ, ◌+◌, ◌*◌, length, get_or, sym, ◌∙◌, subst, add-mul, arith, below_more}
 use Rattle.code.proofs.Limits.{few_rows}
 use Rattle.shelf.specs.Sweeping.{Agrees}
-use Rattle.shelf.proofs.Adding.{rows_are, has_slot_for}
+use Rattle.shelf.proofs.Adding.{has_slot_for}
 use Rattle.shelf.proofs.Frames.{calm_read}
 use Rattle.shelf.proofs.Sweeping.{place_ready, agreed, first_off}
 use Rattle.shelf.proofs.sweep.first_misfit.Goals as goal
 
 pub overflow_mul-slots : goal.overflow_mul-slots
-overflow_mul-slots g c = let few = few_rows c.args.k c.requires.room.width in let e = rows_are c.args.k _ _ c.requires.room _ c.rows_of-slots.ensures in omega arith
+overflow_mul-slots g c = let few = few_rows c.args.k.number c.args.k.valid in let e = c.rows-slots.ensures.value in omega arith
 
 pub fetch-requires : goal.fetch-requires
 fetch-requires g c =
-    let e = rows_are c.args.k _ _ c.requires.room _ c.rows_of-slots.ensures in
-    place_ready c.args.k (length c.args.block.now) (g.T.Tray.meaning c.args.tray.now) (g.T.Tray.meaning c.places.tray) c.requires.heard c.places.invariant.1
+    let e = c.rows-slots.ensures.value in
+    place_ready c.args.k.number (length c.args.block.now) (g.T.Tray.meaning c.args.tray.now) (g.T.Tray.meaning c.places.tray) c.requires.heard c.places.invariant.1
     c.places.slot (omega arith) c.place-column.result (c.place-column.ensures ∙ c.in_slot.ensures) (length c.places.block) c.places.auto.block
 
 pub bounds-work-at : goal.bounds-work-at
 bounds-work-at g c =
-    let e = rows_are c.args.k _ _ c.requires.room _ c.rows_of-slots.ensures in
+    let e = c.rows-slots.ensures.value in
     let s = c.places.slot in
     let n = length c.fetch.new.block in
-    let h = has_slot_for c.args.k (length c.args.block.now) n c.args.work.now c.requires.room (c.fetch.auto.block ∙ c.places.auto.block) s (omega arith) in
+    let h = has_slot_for c.args.k.number (length c.args.block.now) n c.args.work.now c.requires.room (c.fetch.auto.block ∙ c.places.auto.block) s (omega arith) in
     omega (arith, add-mul s 1 n)
 
 pub places-preserved : goal.places-preserved
@@ -33,8 +33,8 @@ places-preserved g c =
     let same : length block ≡ size = c.fetch.auto.block ∙ c.places.auto.block in (
       c.loop-i.invariant.0,
       calm_read m (g.T.Tray.meaning c.places.tray) (g.T.Tray.meaning c.fetch.new.tray) c.place-column.result.0 c.places.invariant.1 c.fetch.ensures.tray,
-      below_more (Agrees c.args.k size m work) s c.places.invariant.2
-          (agreed c.args.k size m (g.T.Tray.meaning c.places.tray) work block s c.place-column.result
+      below_more (Agrees c.args.k.number size m work) s c.places.invariant.2
+          (agreed c.args.k.number size m (g.T.Tray.meaning c.places.tray) work block s c.place-column.result
           (c.place-column.ensures ∙ c.in_slot.ensures) c.places.invariant.1 c.fetch.ensures.block
           (λ b l. subst (λ (n : ℕ). get_or block b 0 ≡ get_or work (s * n + b) 0) same (c.loop-i.invariant.1 b (omega arith)))),
     )
@@ -47,11 +47,11 @@ returns-then-block-i g c =
     let block = c.fetch.new.block in
     let work = c.args.work.now in
     let same : length block ≡ size = c.fetch.auto.block ∙ c.places.auto.block in
-    let e = rows_are c.args.k _ _ c.requires.room _ c.rows_of-slots.ensures in
+    let e = c.rows-slots.ensures.value in
     record {
       tray = calm_read m (g.T.Tray.meaning c.places.tray) (g.T.Tray.meaning c.fetch.new.tray) c.place-column.result.0 c.places.invariant.1 c.fetch.ensures.tray;
       found =
-          first_off c.args.k size m (g.T.Tray.meaning c.places.tray) work block s c.place-column.result
+          first_off c.args.k.number size m (g.T.Tray.meaning c.places.tray) work block s c.place-column.result
           (c.place-column.ensures ∙ c.in_slot.ensures) c.places.invariant.1 c.fetch.ensures.block
           c.loop-i.i (omega arith) (λ h. c.if-block-i.true (subst (λ (n : ℕ). get_or block c.loop-i.i 0 ≡ get_or work (s * n + c.loop-i.i) 0) (sym same) h)) (omega arith) c.places.invariant.2;
     }

@@ -10,4 +10,4 @@ invariant-loop-i g l = (l.found ≡ None) × ((b : ℕ) → b < l.i → get_or l
 abbrev pub invariant-places : goal.invariant-places
 invariant-places g l =
     (l.found ≡ None) × Calm (g.T.Tray.meaning l.initial.tray) (g.T.Tray.meaning l.tray)
-    × ((t : ℕ) → t < l.slot → Agrees l.k (length l.initial.block) (g.T.Tray.meaning l.initial.tray) l.work t)
+    × ((t : ℕ) → t < l.slot → Agrees l.k.number (length l.initial.block) (g.T.Tray.meaning l.initial.tray) l.work t)

@@ -2,7 +2,6 @@ use Rattle.std.proofs.Common.{◌≡◌, ◌<◌, ◌≤◌, cond, length, sym, 
 use Rattle.tray.specs.Meaning.{stored}
 use Rattle.code.specs.Code.{rows}
 use Rattle.code.specs.Neighbours.{published}
-use Rattle.code.specs.Widths.{is_width}
 use Rattle.law.specs.Hand.{AtHand}
 use Rattle.shelf.specs.Missing.{is_out}
 use Rattle.shelf.specs.Rosters.{roster_of, out_of}
@@ -15,7 +14,7 @@ use Rattle.shelf.proofs.roster.Roster.exchange.Goals as goal
 
 pub hand-requires : goal.hand-requires
 hand-requires g c =
-    subst (λ n. Reach c.args.self.now.width n c.args.self.now.missing (g.T.Tray.meaning c.args.tray.now) c.args.column c.args.row.0 c.args.work.now)
+    subst (λ n. Reach c.args.self.now.width.number n c.args.self.now.missing (g.T.Tray.meaning c.args.tray.now) c.args.column c.args.row.0 c.args.work.now)
     (sym c.requires.change) c.requires.reach
 
 pub add-requires : goal.add-requires
@@ -24,7 +23,7 @@ add-requires g c = omega arith
 pub write_served-requires : goal.write_served-requires
 write_served-requires g c =
     λ o.
-    let k = c.args.self.now.width in
+    let k = c.args.self.now.width.number in
     let out = is_out c.args.self.now.missing in
     let size = length c.args.block.now in
     let m = g.T.Tray.meaning c.args.tray.now in
@@ -36,13 +35,13 @@ write_served-requires g c =
 
 pub slice_bounds-add_to_parities-end : goal.slice_bounds-add_to_parities-end
 slice_bounds-add_to_parities-end g c =
-    let l = within_work c.args.self.now.width (length c.args.block.now) c.args.work.now c.requires.reach.room in
+    let l = within_work c.args.self.now.width.number (length c.args.block.now) c.args.work.now c.requires.reach.room in
     let l' : length c.args.block.now ≤ length c.hand.new.work = omega arith in
     search rules
 
 pub add_to_parities-requires : goal.add_to_parities-requires
 add_to_parities-requires g c =
-    let k = c.args.self.now.width in
+    let k = c.args.self.now.width.number in
     let missing = c.args.self.now.missing in
     let x = c.args.block.now in
     let m = g.T.Tray.meaning c.args.tray.now in
@@ -55,8 +54,8 @@ add_to_parities-requires g c =
     let frame =
     written_frame (is_out missing) m m' m'' j i x c.hand.ensures.calm
     (c.write_served.ensures ∙ ap (λ t. cond (is_out t j) m' (stored m' j i x)) c.missing-out.ensures) in
-    let wide : c.width-k.result ≡ k = c.width-k.ensures.value in
-    let heard = heard_still k (length x) (is_out missing) m m'' frame c.requires.reach.heard in record { width = ap is_width wide ∙ c.requires.reach.room.width; heard = heard_as k c.width-k.result (length x) (length c.add.new.work) missing c.missing-out.result wide long c.missing-out.ensures m'' heard; row = subst (λ n. i < rows n) (sym wide) c.requires.reach.row; scratch = simp length-take (omega arith) }
+    let wide : c.width-k.result.number ≡ k = c.width-k.ensures.value in
+    let heard = heard_still k (length x) (is_out missing) m m'' frame c.requires.reach.heard in record { heard = heard_as k c.width-k.result.number (length x) (length c.add.new.work) missing c.missing-out.result wide long c.missing-out.ensures m'' heard; row = subst (λ n. i < rows n) (sym wide) c.requires.reach.row; scratch = simp length-take (omega arith) }
 
 pub returns : goal.returns
 returns g c =
@@ -78,5 +77,5 @@ returns g c =
     (subst (λ n. AtHand k (published k) n out m i j v) as_long c.hand.ensures.at_hand) c.hand.ensures.calm
     (one_slot (length x) v x change c.add.ensures)
     (c.write_served.ensures ∙ ap (λ t. cond (is_out t j) m' (stored m' j i x)) c.missing-out.ensures)
-    (added_as k c.width-k.result (length x) (length change) r.missing c.missing-out.result c.width-k.ensures.value long c.missing-out.ensures m'' m''' change i j
+    (added_as k c.width-k.result.number (length x) (length change) r.missing c.missing-out.result c.width-k.ensures.value long c.missing-out.ensures m'' m''' change i j
     c.add_to_parities.ensures)

@@ -13,7 +13,7 @@ pub refill-reads-requires : goal.refill-reads-requires
 refill-reads-requires g c =
     let h =
     rebuild_ready (roster_of c.args.self.now) c.args.self.now.kept (g.T.Tray.meaning c.args.tray.now) c.args.column c.args.work.now
-    (sym c.check_rebuild.ensures ∙ c.in_ok-check_rebuild.was) c.width.result c.width.ensures.value (length c.block-block.result.now)
+    (sym c.check_rebuild.ensures ∙ c.in_ok-check_rebuild.was) c.width.result.number c.width.ensures.value (length c.block-block.result.now)
     (c.block-block.ensures ∙ c.size.ensures.value) c.missing.result c.missing.ensures in
     record { room = h.0; heard = h.1.0; answers = h.1.1.0; columns = h.1.1.1.0; missing = h.1.1.1.1 }
 
@@ -26,7 +26,7 @@ returns g c =
     let n = c.refill-reads.result in
     let ok = sym c.check_rebuild.ensures ∙ c.in_ok-check_rebuild.was in
     let done =
-    rebuilt r c.args.self.now.kept m c.args.column r' c.put_back.ensures m' n c.width.result c.width.ensures.value
+    rebuilt r c.args.self.now.kept m c.args.column r' c.put_back.ensures m' n c.width.result.number c.width.ensures.value
     (length c.block-block.result.now) (c.block-block.ensures ∙ c.size.ensures.value) c.missing.result c.missing.ensures c.refill-reads.ensures.done in
     record {
       value = accepted_with ok (c.refill-reads.ensures.count ∙ ap₂ reads_of c.width.ensures.value c.missing.ensures);

@@ -13,7 +13,7 @@ compare-requires g c =
     let h =
     sweep_ready (roster_of c.args.self.now) (g.T.Tray.meaning c.args.tray.now) c.args.work.now
     (sym c.check_sweep.ensures ∙ c.in_ok-check_sweep.was) (is_width-kept (roster_of c.args.self.now) c.args.self.now.kept)
-    c.width.result c.width.ensures.value (length c.block.result.now) (c.block.ensures ∙ c.size.ensures.value) in
+    c.width.result.number c.width.ensures.value (length c.block.result.now) (c.block.ensures ∙ c.size.ensures.value) in
     record { room = h.0; heard = h.1 }
 
 pub returns : goal.returns
@@ -24,7 +24,7 @@ returns g c =
     let found = c.compare.result in
     let ok = sym c.check_sweep.ensures ∙ c.in_ok-check_sweep.was in
     let done =
-    swept r m (length c.args.work.now) ok m' found c.width.result c.width.ensures.value (length c.block.result.now)
+    swept r m (length c.args.work.now) ok m' found c.width.result.number c.width.ensures.value (length c.block.result.now)
     (c.block.ensures ∙ c.size.ensures.value) c.compare.ensures.tray c.compare.ensures.found in
     record {
       value = sym ok;

@@ -3,4 +3,4 @@ use Rattle.code.proofs.Limits.{a_width}
 use Rattle.shelf.proofs.sweep.Parity.place.Goals as goal
 
 pub overflow_add-result : goal.overflow_add-result
-overflow_add-result c = let w = a_width c.args.k c.requires in omega arith
+overflow_add-result c = let w = a_width c.args.k.number c.args.k.valid in omega arith
