@@ -1,5 +1,6 @@
 -- What the checks of a call tell of its tray.
-use Rattle.std.proofs.Common.{◌≡◌, ℕ, zero, suc, ◌+◌, ◌-◌, ◌*◌, ◌<◌, ◌≤◌, Bool, true, false, cond, ◌||◌, Some, None, Ok, Option, sym, refl, ap, ◌∙◌, ⊎_elim, true≢false, arith}
+use Rattle.std.proofs.Common.{◌≡◌, ℕ, zero, suc, ◌+◌, ◌-◌, ◌*◌, ◌<◌, ◌≤◌, Bool, true, false, cond, ◌||◌, Some, None, Ok, Option, MatchOption, sym, refl, ap, ◌∙◌, ⊎_elim, true≢false, arith}
+use native.Mathlib.Decide.{ℕ_discrete}
 use Rattle.std.proofs.lemmas.Bool.{cases_eq, cases_Bool}
 use Rattle.std.proofs.lemmas.Bool.Decides.{nat_tests}
 use Rattle.tray.specs.Meaning.{Meaning}
@@ -14,9 +15,23 @@ use Rattle.shelf.specs.Blocks.{Ready}
 
 -- ---- the lowest silent column
 
-pub silent_step : (out : Missing) (answers : ℕ → Bool) (n i : ℕ) → i < n
-    → silent_from out answers i (n - i) ≡ cond (is_out out i || answers i) (silent_from out answers (i + 1) (n - (i + 1))) (Some i)
-silent_step out answers n i h = let e : n - i ≡ suc (n - (i + 1)) = omega arith in rw e refl
+-- the first of the n columns from c to e that is neither out nor answers
+pub first_silent : (out : Missing) (answers : ℕ → Bool) (c n e : ℕ) → e ≡ c + n → (r : Option ℕ)
+    → MatchOption r ((k : ℕ) → c ≤ k → k < e → (is_out out k || answers k) ≡ true)
+    (λ i. (c ≤ i) × (i < e) × ((is_out out i || answers i) ≡ false) × ((k : ℕ) → c ≤ k → k < i → (is_out out k || answers k) ≡ true))
+    → r ≡ silent_from out answers c n
+first_silent out answers c zero e s None h = refl
+first_silent out answers c zero e s (Some i) h = absurd (omega (arith, h.0, h.1))
+first_silent out answers c (suc n) e s None h =
+    first_silent out answers (c + 1) n e (omega arith) None (λ k a b. h k (omega arith) b)
+    ∙ ap (λ t. cond t (silent_from out answers (c + 1) n) (Some c)) (sym (h c (omega arith) (omega arith)))
+first_silent out answers c (suc n) e s (Some i) h =
+    elim (ℕ_discrete i c) [
+      | yes is ↦ ap Some is ∙ ap (λ t. cond t (silent_from out answers (c + 1) n) (Some c)) (sym (ap (λ k. is_out out k || answers k) (sym is) ∙ h.2))
+      | no d ↦
+          first_silent out answers (c + 1) n e (omega arith) (Some i) (omega (arith, h.0), h.1, h.2, λ k a b. h.3 k (omega arith) b)
+          ∙ ap (λ t. cond t (silent_from out answers (c + 1) n) (Some c)) (sym (h.3 c (omega arith) (omega (arith, h.0))))
+    ]
 
 silent_none : (out : Missing) (answers : ℕ → Bool) (i n : ℕ) → silent_from out answers i n ≡ None → (c : ℕ) → i ≤ c → c < i + n → (is_out out c || answers c) ≡ true
 silent_none out answers i zero e c l h = absurd (omega arith)

@@ -1,5 +1,5 @@
 -- The lines to which the block of a place goes, column by column, are those that hold it.
-use Rattle.std.proofs.Common.{◌≡◌, ℕ, suc, ◌+◌, ◌-◌, ◌^◌, ◌<◌, ◌≤◌, Bool, true, false, not, ◌&&◌, eqb, ◌≢◌, List, get_or, sym, refl, ap, ◌∙◌, arith, pow_pos, eqb-true}
+use Rattle.std.proofs.Common.{◌≡◌, ℕ, suc, ◌+◌, ◌-◌, ◌^◌, ◌<◌, ◌≤◌, Bool, true, false, not, ◌&&◌, eqb, ◌≢◌, Some, None, Option, List, get_or, sym, refl, ap, ◌∙◌, arith, pow_pos, eqb-true}
 use native.Mathlib.Decide.{ℕ_discrete}
 use lib.Bits.{bit_xor, xor_assoc, xor_self, xor_lt}
 use borrow.Author.Tests.{eq-true, ne_false}
@@ -10,7 +10,7 @@ use Rattle.code.specs.Lines.{takes, holds}
 use Rattle.code.proofs.Xor.{sum_next}
 use Rattle.code.proofs.Put.{any_none, sum_only, one_column, row_spot, line_spot}
 use Rattle.code.proofs.Listed.{any_same, turned}
-use Rattle.shelf.specs.Slots.{passes, passed, holds_but, to_lines, one}
+use Rattle.shelf.specs.Slots.{to_skip, passes, passed, holds_but, to_lines, one}
 
 module _ (k : ℕ) (right : Rule) (i j skip : ℕ) where
   -- the block goes to line n by column t
@@ -117,3 +117,14 @@ module _ (k : ℕ) (right : Rule) (law : Tournament k right) (i j : ℕ) (il : i
       and_true : (b : Bool) → b && true ≡ b
       and_true true = refl
       and_true false = refl
+
+-- ---- the column to skip
+
+pub passes_unskipped : (right : Rule) (i j k : ℕ) (skip : Option ℕ) (t : ℕ) → t < k → (skip ≡ Some t → ⊥) → passes right i j (to_skip k skip) t ≡ takes right i t j
+unfolding passes
+passes_unskipped right i j k None t l h = ap (λ x. not x && takes right i t j) (sym (ne_false t k (omega arith)))
+passes_unskipped right i j k (Some s) t l h = ap (λ x. not x && takes right i t j) (sym (ne_false t s (λ e. h (ap Some (sym e)))))
+
+pub passes_skipped : (right : Rule) (i j k : ℕ) (skip : Option ℕ) (t : ℕ) → skip ≡ Some t → passes right i j (to_skip k skip) t ≡ false
+unfolding passes
+passes_skipped right i j k skip t e = ap (λ o. not (eqb t (to_skip k o)) && takes right i t j) e ∙ ap (λ x. not x && takes right i t j) (sym (eq-true t t refl))

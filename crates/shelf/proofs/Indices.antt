@@ -7,7 +7,7 @@ use Rattle.std.proofs.lemmas.Bool.Decides.{nat_tests}
 use Rattle.std.proofs.lemmas.List.{places}
 use borrow.Author.Tests.{lt-true, le-false, le-true, lt-false, eq-true, ne_false}
 use Rattle.code.specs.Numbers.{only}
-use Rattle.shelf.specs.Slots.{slot, AddedUpTo, SlotAdded, ZeroUpTo, SlotSet}
+use Rattle.shelf.specs.Slots.{slot, AddedUpTo, SlotAdded, SlotSet}
 
 -- a place of slot t lies in the bytes of slot s just where the slots are the same
 module _ (size s t b : ℕ) (bl : b < size) where
@@ -49,15 +49,6 @@ slot_added size was s block after h t b bl =
           ap (λ x. cond x (bit_xor (get_or was (t * size + b) 0) (get_or block (t * size + b - s * size) 0)) (get_or was (t * size + b) 0)) (without size s t b bl n)
           ∙ sym (xor_zero_r (get_or was (t * size + b) 0))
           ∙ ap (λ x. bit_xor (get_or was (t * size + b) 0) (cond x (get_or block b 0) 0)) (ne_false t s n)
-    ]
-
-pub slot_zeroed : (size : ℕ) (was : List ℕ) (s : ℕ) (after : List ℕ) → ZeroUpTo was (s * size) size after → SlotSet size was s (λ _. 0) after
-unfolding slot
-slot_zeroed size was s after h t b bl =
-    h (t * size + b)
-    ∙ elim (ℕ_discrete t s) [
-      | yes e ↦ ap (λ x. cond x 0 (get_or was (t * size + b) 0)) (within size s t b bl e ∙ eq-true t s e)
-      | no n ↦ ap (λ x. cond x 0 (get_or was (t * size + b) 0)) (without size s t b bl n ∙ ne_false t s n)
     ]
 
 -- a block written over the bytes of a slot

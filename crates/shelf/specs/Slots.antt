@@ -1,5 +1,5 @@
 -- The work space of a call: a slot of one block for each row, and behind them one for each line.
-use Rattle.std.specs.Prelude.{◌≡◌, ℕ, ◌+◌, ◌-◌, ◌*◌, ◌<◌, ◌≤◌, Bool, cond, not, ◌&&◌, List, length, ◌==◌, bit_xor, nat_le, nat_lt, slice_index}
+use Rattle.std.specs.Prelude.{◌≡◌, ℕ, ◌+◌, ◌-◌, ◌*◌, ◌<◌, ◌≤◌, Bool, cond, not, ◌&&◌, Some, None, Option, List, length, ◌==◌, bit_xor, nat_le, nat_lt, slice_index}
 use Rattle.code.specs.Numbers.{only, xorsum}
 use Rattle.code.specs.Code.{Blocks, Rule, spot, rows, meets, horizontal, butterfly}
 use Rattle.code.specs.Lines.{takes, holds}
@@ -18,10 +18,6 @@ line_slot k size work b n = slot size work (rows k + n) b
 -- a work space that has a slot for each row and each line of a width
 pub record Room (k size : ℕ) (work : List ℕ) : Type 0 where
   pub large : 2 * rows k * size ≤ length work
-
--- the first n bytes from `at` on are zeros, as a loop goes
-abbrev pub ZeroUpTo : List ℕ → ℕ → ℕ → List ℕ → Type 0
-ZeroUpTo was at n after = (k : ℕ) → slice_index after k ≡ cond (nat_le at k && nat_lt k (at + n)) 0 (slice_index was k)
 
 -- the first n bytes of a block added from `at` on, as a loop goes
 abbrev pub AddedUpTo : List ℕ → ℕ → List ℕ → ℕ → List ℕ → Type 0
@@ -61,6 +57,11 @@ Summed k right size was E after = Plus k size was (λ b. horizontal k (E b)) (λ
 -- a block x in row i of column j, and nothing elsewhere, lane by lane
 abbrev pub one : ℕ → ℕ → List ℕ → ℕ → Blocks
 one i j x b = spot i j (slice_index x b)
+
+-- the number of the data column to skip, if there is one; else the number k, which no data column has
+abbrev pub to_skip : ℕ → Option ℕ → ℕ
+to_skip k None = k
+to_skip k (Some t) = t
 
 -- a block of the place (i, j) goes to the line that meets column t in row i: the line takes the place there, and t is not
 -- the column to skip

@@ -1,5 +1,6 @@
 // The checks of the calls that take a tray, each in its order. A call that passes them is never refused by its tray.
-ghost use Rattle.std.specs.Prelude.{◌≡◌, ◌<◌, ◌≤◌, true, ◌||◌};
+ghost use Rattle.std.specs.Prelude.{◌≡◌, ◌+◌, ◌<◌, ◌≤◌, true, ◌||◌, if◌then◌else◌, Ok, Err};
+ghost use Rattle.code.specs.Code.{rows};
 ghost use Rattle.shelf.specs.Missing.{is_out};
 ghost use Rattle.shelf.specs.Rosters.{roster_of};
 ghost use Rattle.shelf.specs.Checks.{is_shaped, is_roomy, silent_from, hearing, laying, reaching, rebuilding, sweeping};
@@ -7,20 +8,14 @@ ghost use Rattle.shelf.specs.Checks.{is_shaped, is_roomy, silent_from, hearing, 
 use crate::roster::Roster;
 use crate::roster::missing::Missing;
 use tray::fault::{Fault, Refusal};
-use tray::trays::Tray;
+use tray::trays::{Shape, Tray};
 
 // Whether a column is out or answers.
 fn is_heard<T: Tray>(out: Missing, tray: &T, column: u32) -> bool
     requires { column < (T.Tray.meaning tray.now).columns }
     ensures { result ≡ (is_out out column || (T.Tray.meaning tray.now).answers column) }
 {
-    if out.is_out(column) {
-        return true;
-    }
-    match tray.answers(column) {
-        Ok(answers) => answers,
-        Err(_) => false,
-    }
+    out.is_out(column) || tray.answers(column) == Ok(true)
 }
 
 // The lowest of the first columns that is neither out nor answers.
@@ -28,21 +23,35 @@ fn lowest_silent<T: Tray>(out: Missing, tray: &T, columns: u32) -> Option<u32>
     requires { columns ≤ (T.Tray.meaning tray.now).columns }
     ensures { result ≡ silent_from out (T.Tray.meaning tray.now).answers 0 columns }
 {
-    for column in 0..columns {
-        if !is_heard(out, tray, column) {
-            return Some(column);
-        }
-    }
-    None
+    (0..columns).find(|column| !is_heard(out, tray, *column))
+}
+
+// Goes on where a check holds, and else ends in the fault that tells why not.
+pub(crate) fn pass(holds: bool, fault: Fault) -> Result<(), Fault>
+    ensures { result ≡ (if holds then Ok tt else Err fault) }
+{
+    if holds { Ok(()) } else { Err(fault) }
 }
 
 impl Roster {
+    // The shape of the shelf's tray.
+    fn shape(&self) -> Shape
+        ensures columns { result.columns ≡ (roster_of self.now).width + 2 }
+        ensures rows { result.rows ≡ rows (roster_of self.now).width }
+        ensures size { result.size ≡ (roster_of self.now).size }
+    {
+        Shape {
+            columns: self.columns(),
+            rows: self.rows(),
+            size: self.size(),
+        }
+    }
+
     // Whether a tray has the shelf's shape.
     fn fits<T: Tray>(&self, tray: &T) -> bool
         ensures { result ≡ is_shaped (roster_of self.now) (T.Tray.meaning tray.now) }
     {
-        let shape = tray.shape();
-        shape.columns == self.columns() && shape.rows == self.rows() && shape.size == self.size()
+        tray.shape() == self.shape()
     }
 
     // Whether a work space has room for a block of each row and one of each line.
@@ -67,9 +76,8 @@ impl Roster {
     pub(crate) fn check_layout<T: Tray>(&self, tray: &T) -> Result<(), Fault>
         ensures { result ≡ laying (roster_of self.now) (T.Tray.meaning tray.now) }
     {
-        if !self.fits(tray) {
-            return Err(Fault::shelf(Refusal::ShapeDiffers, None, None));
-        }
+        let fault = |refusal| Fault::shelf(refusal, None, None);
+        pass(self.fits(tray), fault(Refusal::ShapeDiffers))?;
         self.check_heard(Missing::Nothing, tray)
     }
 
@@ -84,21 +92,12 @@ impl Roster {
     ) -> Result<(), Fault>
         ensures { result ≡ reaching (roster_of self.now) (T.Tray.meaning tray.now) column row block work }
     {
-        if !self.fits(tray) {
-            return Err(Fault::shelf(Refusal::ShapeDiffers, Some(column), Some(row)));
-        }
-        if column >= self.width().number {
-            return Err(Fault::shelf(Refusal::ColumnTooHigh, Some(column), Some(row)));
-        }
-        if row >= self.rows() {
-            return Err(Fault::shelf(Refusal::RowTooHigh, Some(column), Some(row)));
-        }
-        if block != self.size() as usize {
-            return Err(Fault::shelf(Refusal::WrongBuffer, Some(column), Some(row)));
-        }
-        if !self.is_roomy(work) {
-            return Err(Fault::shelf(Refusal::ShortWork, Some(column), Some(row)));
-        }
+        let fault = |refusal| Fault::shelf(refusal, Some(column), Some(row));
+        pass(self.fits(tray), fault(Refusal::ShapeDiffers))?;
+        pass(column < self.width().number, fault(Refusal::ColumnTooHigh))?;
+        pass(row < self.rows(), fault(Refusal::RowTooHigh))?;
+        pass(block == self.size() as usize, fault(Refusal::WrongBuffer))?;
+        pass(self.is_roomy(work), fault(Refusal::ShortWork))?;
         self.check_heard(self.missing(), tray)
     }
 
@@ -111,18 +110,11 @@ impl Roster {
     ) -> Result<(), Fault>
         ensures { result ≡ rebuilding (roster_of self.now) (T.Tray.meaning tray.now) column work }
     {
-        if !self.fits(tray) {
-            return Err(Fault::shelf(Refusal::ShapeDiffers, Some(column), None));
-        }
-        if column >= self.columns() {
-            return Err(Fault::shelf(Refusal::ColumnTooHigh, Some(column), None));
-        }
-        if !self.is_roomy(work) {
-            return Err(Fault::shelf(Refusal::ShortWork, Some(column), None));
-        }
-        if !self.is_out(column) {
-            return Err(Fault::shelf(Refusal::NotOut, Some(column), None));
-        }
+        let fault = |refusal| Fault::shelf(refusal, Some(column), None);
+        pass(self.fits(tray), fault(Refusal::ShapeDiffers))?;
+        pass(column < self.columns(), fault(Refusal::ColumnTooHigh))?;
+        pass(self.is_roomy(work), fault(Refusal::ShortWork))?;
+        pass(self.is_out(column), fault(Refusal::NotOut))?;
         self.check_heard(self.missing().without(column), tray)
     }
 
@@ -130,15 +122,10 @@ impl Roster {
     pub(crate) fn check_sweep<T: Tray>(&self, tray: &T, work: usize) -> Result<(), Fault>
         ensures { result ≡ sweeping (roster_of self.now) (T.Tray.meaning tray.now) work }
     {
-        if !self.fits(tray) {
-            return Err(Fault::shelf(Refusal::ShapeDiffers, None, None));
-        }
-        if !self.is_roomy(work) {
-            return Err(Fault::shelf(Refusal::ShortWork, None, None));
-        }
-        if !self.missing().is_empty() {
-            return Err(Fault::shelf(Refusal::ColumnOut, None, None));
-        }
+        let fault = |refusal| Fault::shelf(refusal, None, None);
+        pass(self.fits(tray), fault(Refusal::ShapeDiffers))?;
+        pass(self.is_roomy(work), fault(Refusal::ShortWork))?;
+        pass(self.missing().is_empty(), fault(Refusal::ColumnOut))?;
         self.check_heard(Missing::Nothing, tray)
     }
 }

@@ -14,9 +14,8 @@ ghost use Rattle.shelf.specs.Hands.{Reach};
 
 use crate::blocks::place;
 use crate::parities::add_to_parities;
-use crate::roster::Roster;
 use crate::roster::missing::Missing;
-use crate::roster::parts::MOST_SIZE;
+use crate::roster::{MOST_SIZE, Roster};
 use crate::slots::add;
 use code::places::Row;
 use tray::fault::Fault;

@@ -84,10 +84,7 @@ impl Missing {
     fn is_sole_data(self, k: Width) -> bool
         ensures { result ≡ is_sole_data k.number self }
     {
-        match self {
-            Missing::One(a) => a < k.number,
-            _ => false,
-        }
+        matches!(self, Missing::One(a) if a < k.number)
     }
 
     // The two columns that are taken as missing where it is not a data column alone. With all data in service both parities
@@ -96,7 +93,7 @@ impl Missing {
         ensures { result ≡ pair_of k.number self }
     {
         match self {
-            Missing::Two(a, b) => Missing::Two(a, b),
+            Missing::Two(..) => self,
             _ => Missing::Two(k.number, k.number + 1),
         }
     }

@@ -42,7 +42,7 @@ fn add_other<T: Tray>(
     if column != lost {
         fetch(tray, column, row.0, block);
         add(work, row.0 as usize, block);
-        add_to_lines(work, k, row, column, lost, block);
+        add_to_lines(work, k, row, column, Some(lost), block);
     }
 }
 
@@ -85,7 +85,7 @@ fn regain_row<T: Tray>(
     fetch_slot(tray, k.number, row.0, work, row.0 as usize, block.len());
     add_others(tray, k, lost, row, block, work);
     copy_slot(work, row.0 as usize, block);
-    add_to_lines(work, k, row, lost, lost, block);
+    add_to_lines(work, k, row, lost, Some(lost), block);
 }
 
 // Goes on to the next row: if it is dark for the lost column, its place there is found.

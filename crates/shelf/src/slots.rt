@@ -14,8 +14,8 @@ pub(crate) fn add(work: &mut [u8], slot: usize, block: &[u8])
     ensures { SlotAdded (length block.now) work.old slot block.now work.new }
 {
     let at = slot * block.len();
-    for i in 0..block.len() {
-        work[at + i] ^= block[i];
+    for (i, byte) in block.iter().enumerate() {
+        work[at + i] ^= byte;
     }
 }
 
@@ -35,9 +35,7 @@ pub(crate) fn clear_slot(work: &mut [u8], slot: usize, size: usize)
     ensures { SlotSet size work.old slot (λ _. 0) work.new }
 {
     let at = slot * size;
-    for i in 0..size {
-        work[at + i] = 0;
-    }
+    work[at..at + size].fill(0);
 }
 
 // Reads a block of a tray straight into a slot.

@@ -20,7 +20,7 @@ pub(crate) fn spread(work: &mut [u8], k: Width, column: u32, block: &mut [u8])
 {
     for row in 0..k.rows() {
         copy_slot(work, row as usize, block);
-        add_to_lines(work, k, Row(row), column, k.number, block);
+        add_to_lines(work, k, Row(row), column, None, block);
     }
 }
 
@@ -33,15 +33,15 @@ fn settle(work: &mut [u8], k: Width, p: u32, q: u32, row: Row, block: &mut [u8])
 {
     copy_slot(work, line_slot(k, row.line(p)), block);
     add(work, row.0 as usize, block);
-    add_to_lines(work, k, row, p, p, block);
-    add_to_lines(work, k, row, q, k.number, block);
+    add_to_lines(work, k, row, p, Some(p), block);
+    add_to_lines(work, k, row, q, None, block);
 }
 
 // 1 where the place in a row of a column is white, else 0.
 fn white(row: Row, column: u32) -> u32
     ensures { result ≡ (if dark row.0 column then 0 else 1) }
 {
-    if row.is_dark(column) { 0 } else { 1 }
+    u32::from(!row.is_dark(column))
 }
 
 // The rank of a row: rows of lower rank are settled before it.

@@ -73,8 +73,8 @@ fn first_misfit<T: Tray>(
         let (column, row) = Parity::in_slot(k, slot).place(k);
         fetch(tray, column, row, block);
         let at = slot as usize * block.len();
-        for i in 0..block.len() {
-            if block[i] != work[at + i] {
+        for (i, byte) in block.iter().enumerate() {
+            if *byte != work[at + i] {
                 found = Some((column, row));
                 break 'places;
             }

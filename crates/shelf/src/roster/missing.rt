@@ -25,20 +25,14 @@ impl Missing {
     pub(crate) fn is_empty(self) -> bool
         ensures { result ≡ is_empty self }
     {
-        match self {
-            Missing::Nothing => true,
-            _ => false,
-        }
+        matches!(self, Missing::Nothing)
     }
 
     // Whether no further column may go out.
     pub(crate) fn is_full(self) -> bool
         ensures { result ≡ is_full self }
     {
-        match self {
-            Missing::Two(_, _) => true,
-            _ => false,
-        }
+        matches!(self, Missing::Two(..))
     }
 
     // One column more is out, where there is room.
@@ -48,7 +42,7 @@ impl Missing {
         match self {
             Missing::Nothing => Missing::One(column),
             Missing::One(a) => Missing::Two(a, column),
-            Missing::Two(a, b) => Missing::Two(a, b),
+            Missing::Two(..) => self,
         }
     }
 

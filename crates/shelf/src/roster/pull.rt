@@ -5,6 +5,7 @@ ghost use Rattle.shelf.specs.Rosters.{roster_of, taken_out, back_in};
 ghost use Rattle.shelf.specs.Checks.{pulling};
 ghost use Rattle.shelf.specs.Promises.{PullsOn, PullCarries};
 
+use crate::checks::pass;
 use crate::roster::Roster;
 use tray::fault::{Fault, Refusal};
 
@@ -13,16 +14,10 @@ impl Roster {
     fn check_pull(&self, column: u32) -> Result<(), Fault>
         ensures { result ≡ pulling (roster_of self.now) column }
     {
-        if column >= self.columns() {
-            return Err(Fault::shelf(Refusal::ColumnTooHigh, Some(column), None));
-        }
-        if self.is_out(column) {
-            return Err(Fault::shelf(Refusal::AlreadyOut, Some(column), None));
-        }
-        if self.missing.is_full() {
-            return Err(Fault::shelf(Refusal::TwoOut, Some(column), None));
-        }
-        Ok(())
+        let fault = |refusal| Fault::shelf(refusal, Some(column), None);
+        pass(column < self.columns(), fault(Refusal::ColumnTooHigh))?;
+        pass(!self.is_out(column), fault(Refusal::AlreadyOut))?;
+        pass(!self.missing.is_full(), fault(Refusal::TwoOut))
     }
 
     // Takes a column out of service.

@@ -1,15 +1,13 @@
-use Rattle.std.proofs.Common.{sym, ◌∙◌}
-use Rattle.shelf.proofs.Checked.{silent_step}
+use Rattle.std.proofs.Common.{◌≡◌, ◌||◌, true, false, sym, ◌∙◌, arith, rules, tests}
+use Rattle.std.proofs.lemmas.Iterator.{first_from_Range}
+use Rattle.shelf.specs.Missing.{is_out}
+use Rattle.shelf.proofs.Checked.{first_silent}
 use Rattle.shelf.proofs.checks.lowest_silent.Goals as goal
 
-pub returns-then-not-is_heard : goal.returns-then-not-is_heard
-returns-then-not-is_heard g c =
-    let step = silent_step c.args.out (g.T.Tray.meaning c.args.tray.now).answers c.args.columns c.loop-column.column c.loop-column-test.true in
-    let heard = sym c.if-not-is_heard.ensures in
-    sym (c.loop-column.invariant ∙ (rw heard at step))
-
-pub loop-column-preserved : goal.loop-column-preserved
-loop-column-preserved g c =
-    let step = silent_step c.args.out (g.T.Tray.meaning c.args.tray.now).answers c.args.columns c.loop-column.column c.loop-column-test.true in
-    let heard = sym c.if-not-is_heard.ensures in
-    c.loop-column.invariant ∙ (rw heard at step)
+pub returns : goal.returns
+returns g c =
+    let out = c.args.out in
+    let answers = (g.T.Tray.meaning c.args.tray.now).answers in
+    first_silent out answers 0 c.args.columns c.args.columns (omega arith) c.find.result
+    (first_from_Range _ _ _ _ (λ i. (is_out out i || answers i) ≡ false) (λ i. (is_out out i || answers i) ≡ true) c.find.ensures.ran
+    (λ x q k. search (rules, tests)) (λ x q k. (search rules, search (rules, tests))))

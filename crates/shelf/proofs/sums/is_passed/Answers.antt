@@ -1,12 +1,13 @@
-use Rattle.std.proofs.Common.{arith}
-use Rattle.std.proofs.lemmas.Bool.Decides.{nat_tests}
-use Rattle.shelf.specs.Slots.{passes}
+use Rattle.std.proofs.Common.{◌≡◌, false, sym, ◌∙◌, rules}
+use Rattle.code.specs.Neighbours.{published}
+use Rattle.shelf.proofs.Holding.{passes_unskipped, passes_skipped}
 use Rattle.shelf.proofs.sums.is_passed.Goals as goal
 
-pub returns-then-through-skip : goal.returns-then-through-skip
-unfolding passes
-returns-then-through-skip c = grind (arith, nat_tests)
+pub returns-then-ne : goal.returns-then-ne
+returns-then-ne c =
+    c.is_taken.ensures ∙ sym (passes_unskipped (published c.args.k.number) c.args.row.0 c.args.column c.args.k.number c.args.skip c.args.through c.requires (search rules))
 
-pub returns-else-through-skip : goal.returns-else-through-skip
-unfolding passes
-returns-else-through-skip c = grind (arith, nat_tests)
+pub returns-else-ne : goal.returns-else-ne
+returns-else-ne c =
+    let e : c.ne.result ≡ false = search rules in
+    e ∙ sym (passes_skipped (published c.args.k.number) c.args.row.0 c.args.column c.args.k.number c.args.skip c.args.through (search rules))

@@ -5,7 +5,7 @@ use Rattle.shelf.specs.Sweeping.{Agrees}
 use Rattle.shelf.proofs.sweep.first_misfit.Given as goal
 
 abbrev pub invariant-loop-i : goal.invariant-loop-i
-invariant-loop-i g l = (l.found ≡ None) × ((b : ℕ) → b < l.i → get_or l.block b 0 ≡ get_or l.work (l.at + b) 0)
+invariant-loop-i g l = (l.found ≡ None) × ((b : ℕ) → b < l.i → get_or l.byte-items b 0 ≡ get_or l.work (l.at + b) 0)
 
 abbrev pub invariant-places : goal.invariant-places
 invariant-places g l =
