@@ -26,6 +26,5 @@ pub mod Handing
 pub mod Reaching
 pub mod Changing
 pub mod Exchanging
-pub mod Rehearsing
 pub mod Rebuilding
 pub mod Refilling

@@ -47,7 +47,7 @@ impl Roster {
         ensures done { PullsOn (roster_of self.old) column result.taken (roster_of result.roster.now) }
         ensures carries { DrillCarries (roster_of self.old) column result.taken (roster_of result.roster.now) }
     {
-        let taken = self.take_out(column);
+        let taken = self.pull(column);
         Drill {
             roster: self,
             column,

@@ -8,11 +8,11 @@ ghost use Rattle.shelf.specs.Wiped.{wiped_column, wiped};
 ghost use Rattle.shelf.specs.Layouts.{made_of, laying_out, zeroed, Begins};
 
 use crate::blocks::place;
-use crate::roster::Roster;
+use crate::roster::{MOST_SIZE, Roster};
 use tray::fault::Fault;
 use tray::trays::Tray;
 
-static ZEROS: [u8; 512] = [0; 512];
+static ZEROS: [u8; MOST_SIZE as usize] = [0; MOST_SIZE as usize];
 
 // A block of zeros.
 fn zeros(size: u32) -> &'static [u8]
@@ -42,18 +42,6 @@ fn wipe<T: Tray>(tray: &mut T, columns: u32, rows: u32, block: &[u8])
     }
 }
 
-// Zeros on a tray that takes the layout.
-fn lay_out<T: Tray>(tray: &mut T, width: u32, size: u32) -> Result<Roster, Fault>
-    ensures value { made_of result ≡ laying_out width size (T.Tray.meaning tray.old) }
-    ensures after { T.Tray.meaning tray.new ≡ if_ok result (zeroed width size (T.Tray.meaning tray.old)) (T.Tray.meaning tray.old) }
-    ensures spared { OnErr result (tray.new ≡ tray.old) }
-{
-    let roster = Roster::new(width, size)?;
-    roster.check_layout(tray)?;
-    wipe(tray, roster.columns(), roster.rows(), zeros(roster.size()));
-    Ok(roster)
-}
-
 impl Roster {
     // Lays a shelf of `width` data columns and blocks of `size` bytes out on a tray: writes zeros everywhere, and answers
     // a roster with no column out. From here on the law of shelves stands of every run of calls.
@@ -64,6 +52,9 @@ impl Roster {
         ensures spared { OnErr result (tray.new ≡ tray.old) }
         ensures law { LawOfShelves }
     {
-        lay_out(tray, width, size)
+        let roster = Roster::new(width, size)?;
+        roster.check_layout(tray)?;
+        wipe(tray, roster.columns(), roster.rows(), zeros(roster.size()));
+        Ok(roster)
     }
 }

@@ -16,6 +16,7 @@ use crate::blocks::place;
 use crate::parities::add_to_parities;
 use crate::roster::missing::Missing;
 use crate::roster::{MOST_SIZE, Roster};
+use crate::scratch::Scratch;
 use crate::slots::add;
 use code::places::Row;
 use tray::fault::Fault;
@@ -71,9 +72,9 @@ impl Roster {
         ensures carries { CarriesOn (roster_of self.now) (T.Tray.meaning tray.old) (T.Tray.sized tray.old) (told result (sent column row block.now)) (roster_of self.now) (T.Tray.meaning tray.new) (T.Tray.sized tray.new) }
     {
         self.check_place(tray, column, row, block.len(), work.len())?;
-        let size = block.len();
-        let mut change = [0u8; MOST_SIZE as usize];
-        self.exchange(tray, column, Row(row), block, &mut change[0..size], work);
+        let mut scratch = Scratch::new();
+        let change = scratch.block(self.size());
+        self.exchange(tray, column, Row(row), block, change, work);
         Ok(())
     }
 }

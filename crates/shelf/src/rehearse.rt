@@ -10,26 +10,6 @@ use tray::fault::Fault;
 use tray::trays::Tray;
 
 impl Roster {
-    // The drill of a column with one get in it: its ways, each of which ends the drill.
-    fn drilled_get<T: Tray>(
-        &mut self,
-        tray: &mut T,
-        drilled: u32,
-        column: u32,
-        row: u32,
-        block: &mut [u8],
-        work: &mut [u8],
-    ) -> Result<(), Fault>
-        ensures value { result ≡ rehearsing (roster_of self.old) (T.Tray.meaning tray.old) drilled column row (length block.old) (length work.old) }
-        ensures same { roster_of self.new ≡ roster_of self.old }
-        ensures done { RehearsesOn (roster_of self.old) (T.Tray.meaning tray.old) drilled column row block.old result block.new (T.Tray.meaning tray.new) }
-        ensures work { Spares work.old result work.new }
-    {
-        let drill = self.drill(drilled);
-        drill.taken()?;
-        drill.get(tray, column, row, block, work)
-    }
-
     // Fills a block with the data at hand while one column is drilled, and leaves the roster as it was. A refused drill is
     // told, and then no get is made.
     pub fn rehearse<T: Tray>(
@@ -47,6 +27,8 @@ impl Roster {
         ensures work { Spares work.old result work.new }
         ensures carries { CarriesOn (roster_of self.old) (T.Tray.meaning tray.old) (T.Tray.sized tray.old) (rehearsed (roster_of self.old) drilled column row result) (roster_of self.new) (T.Tray.meaning tray.new) (T.Tray.sized tray.new) }
     {
-        self.drilled_get(tray, drilled, column, row, block, work)
+        let drill = self.drill(drilled);
+        drill.taken()?;
+        drill.get(tray, column, row, block, work)
     }
 }

@@ -1,9 +1,11 @@
 // Scratch space of a call: room for one block, on the stack. What it holds before and after a loan means nothing.
 ghost use Rattle.std.specs.Prelude.{◌≡◌, ◌≤◌, length};
 
+use crate::roster::MOST_SIZE;
+
 #[derive(Drop)]
 pub(crate) struct Scratch {
-    bytes: [u8; 512],
+    bytes: [u8; MOST_SIZE as usize],
 }
 
 impl Scratch {
@@ -11,7 +13,9 @@ impl Scratch {
     pub(crate) fn new() -> Scratch
         ensures { length result.bytes ≡ 512 }
     {
-        Scratch { bytes: [0; 512] }
+        Scratch {
+            bytes: [0; MOST_SIZE as usize],
+        }
     }
 
     // Lends a block of `size` bytes.

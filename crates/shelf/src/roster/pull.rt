@@ -20,16 +20,6 @@ impl Roster {
         pass(!self.missing.is_full(), fault(Refusal::TwoOut))
     }
 
-    // Takes a column out of service.
-    pub(crate) fn take_out(&mut self, column: u32) -> Result<(), Fault>
-        ensures value { result ≡ pulling (roster_of self.old) column }
-        ensures after { roster_of self.new ≡ if_ok result (taken_out (roster_of self.old) column) (roster_of self.old) }
-    {
-        self.check_pull(column)?;
-        self.missing = self.missing.with(column);
-        Ok(())
-    }
-
     // Takes a column out of service, data or parity, as long as fewer than two are out. Its blocks may be lost from now on.
     pub fn pull(&mut self, column: u32) -> Result<(), Fault>
         ensures value { result ≡ pulling (roster_of self.old) column }
@@ -37,7 +27,9 @@ impl Roster {
         ensures done { PullsOn (roster_of self.old) column result (roster_of self.new) }
         ensures carries { PullCarries (roster_of self.old) column result (roster_of self.new) }
     {
-        self.take_out(column)
+        self.check_pull(column)?;
+        self.missing = self.missing.with(column);
+        Ok(())
     }
 
     // Puts a column back into service.

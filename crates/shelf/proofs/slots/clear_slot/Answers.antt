@@ -1,4 +1,4 @@
-use Rattle.std.proofs.Common.{◌≡◌, cond, eqb, length, get_or, replicate, ap, ◌∙◌, arith, rules}
+use Rattle.std.proofs.Common.{◌≡◌, cond, eqb, get_or, ap, ◌∙◌, arith}
 use Rattle.std.proofs.lemmas.List.{places}
 use Rattle.shelf.specs.Slots.{slot}
 use Rattle.shelf.proofs.Indices.{slot_put}

@@ -7,10 +7,10 @@ use Rattle.shelf.proofs.roster.Roster.drill.Goals as goal
 pub returns : goal.returns
 returns c =
     let r = roster_of c.args.self.now in
-    let after = roster_of c.take_out-taken.new.self in
-    let h = c.take_out-taken.ensures in
-    let kept = pull_kept r after c.args.column c.take_out-taken.result h.value h.after in
-    let undone = drill_undone r after c.args.column c.take_out-taken.result h.value h.after in
+    let after = roster_of c.pull-taken.new.self in
+    let h = c.pull-taken.ensures in
+    let kept = pull_kept r after c.args.column c.pull-taken.result h.value h.after in
+    let undone = drill_undone r after c.args.column c.pull-taken.result h.value h.after in
     record {
       taken = h.value;
       column = refl;
@@ -18,5 +18,5 @@ returns c =
       undone = undone;
       lender = refl;
       done = kept;
-      carries = drill_goes_on r after c.args.column c.take_out-taken.result kept undone;
+      carries = drill_goes_on r after c.args.column c.pull-taken.result kept undone;
     }

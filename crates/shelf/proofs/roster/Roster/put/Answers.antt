@@ -1,4 +1,4 @@
-use Rattle.std.proofs.Common.{◌≤◌, length, Ok, sym, ◌∙◌, arith, length-take, rules}
+use Rattle.std.proofs.Common.{◌≤◌, length, Ok, sym, ◌∙◌, rules}
 use Rattle.std.proofs.lemmas.Result.{err_from_is_err_and}
 use Rattle.shelf.specs.Rosters.{roster_of}
 use Rattle.shelf.proofs.Promised.{put_goes_on}
@@ -12,7 +12,7 @@ exchange-requires g c =
     let n = length c.args.block.now in
     let ok = sym c.check_place.ensures ∙ c.in_ok-check_place.was in
     let l : n ≤ 512 = fits_most r m c.args.column c.args.row n c.args.work.now ok c.args.self.now.kept in
-    record { reach = in_reach r m c.args.column c.args.row n c.args.work.now ok c.args.self.now.kept; change = simp length-take (omega arith) }
+    record { reach = in_reach r m c.args.column c.args.row n c.args.work.now ok c.args.self.now.kept; change = search rules }
 
 pub returns : goal.returns
 returns g c =
