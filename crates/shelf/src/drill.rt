@@ -4,7 +4,7 @@
 ghost use Rattle.std.specs.Prelude.{◌≡◌, length};
 ghost use Rattle.tray.specs.Meaning.{if_ok};
 ghost use Rattle.law.specs.Promises.{Spares, told_inside};
-ghost use Rattle.shelf.specs.Rosters.{roster_of, taken_out};
+ghost use Rattle.shelf.specs.Rosters.{taken_out};
 ghost use Rattle.shelf.specs.Checks.{pulling, reaching};
 ghost use Rattle.shelf.specs.Promises.{PullsOn, GetsOn, CarriesInsideOn};
 ghost use Rattle.shelf.specs.Drills.{ended, DrillCarries};
@@ -22,7 +22,7 @@ pub struct Drill<'a> {
 
 impl Drop for Drill<'_> {
     fn drop(self)
-        ensures { roster_of self.exit.0.now ≡ ended self.entry.taken self.entry.column (roster_of self.entry.roster.now) }
+        ensures { self.exit.0.now ≡ ended self.entry.taken self.entry.column self.entry.roster.now }
     {
         let column = self.column;
         if let Ok(()) = self.taken {
@@ -39,13 +39,13 @@ impl Drop for Drill<'_> {
 impl Roster {
     // Begins a drill of a column, data or parity. Where the column cannot be taken out the drill is idle.
     pub fn drill(&mut self, column: u32) -> Drill<'_>
-        ensures taken { result.taken ≡ pulling (roster_of self.old) column }
+        ensures taken { result.taken ≡ pulling self.old column }
         ensures column { result.column ≡ column }
-        ensures roster { roster_of result.roster.now ≡ if_ok result.taken (taken_out (roster_of self.old) column) (roster_of self.old) }
-        ensures undone { ended result.taken result.column (roster_of result.roster.now) ≡ roster_of self.old }
+        ensures roster { result.roster.now ≡ if_ok result.taken (taken_out self.old column) self.old }
+        ensures undone { ended result.taken result.column result.roster.now ≡ self.old }
         ensures lender { result.roster.ghost_name ≡ self.entry.ghost_name }
-        ensures done { PullsOn (roster_of self.old) column result.taken (roster_of result.roster.now) }
-        ensures carries { DrillCarries (roster_of self.old) column result.taken (roster_of result.roster.now) }
+        ensures done { PullsOn self.old column result.taken result.roster.now }
+        ensures carries { DrillCarries self.old column result.taken result.roster.now }
     {
         let taken = self.pull(column);
         Drill {
@@ -73,10 +73,10 @@ impl Drill<'_> {
         block: &mut [u8],
         work: &mut [u8],
     ) -> Result<(), Fault>
-        ensures value { result ≡ reaching (roster_of self.now.roster.now) (T.Tray.meaning tray.old) column row (length block.old) (length work.old) }
-        ensures done { GetsOn (roster_of self.now.roster.now) (T.Tray.meaning tray.old) column row block.old result block.new (T.Tray.meaning tray.new) }
+        ensures value { result ≡ reaching self.now.roster.now (T.Tray.meaning tray.old) column row (length block.old) (length work.old) }
+        ensures done { GetsOn self.now.roster.now (T.Tray.meaning tray.old) column row block.old result block.new (T.Tray.meaning tray.new) }
         ensures work { Spares work.old result work.new }
-        ensures carries { CarriesInsideOn (roster_of self.now.roster.now) (T.Tray.meaning tray.old) (T.Tray.sized tray.old) (told_inside result column row) (T.Tray.meaning tray.new) (T.Tray.sized tray.new) }
+        ensures carries { CarriesInsideOn self.now.roster.now (T.Tray.meaning tray.old) (T.Tray.sized tray.old) (told_inside result column row) (T.Tray.meaning tray.new) (T.Tray.sized tray.new) }
     {
         self.roster.get(tray, column, row, block, work)
     }

@@ -6,7 +6,7 @@ ghost use Rattle.law.specs.Calls.{Put};
 ghost use Rattle.law.specs.Runs.{put as sent};
 ghost use Rattle.law.specs.Promises.{Spares, told};
 ghost use Rattle.shelf.specs.Missing.{is_out};
-ghost use Rattle.shelf.specs.Rosters.{roster_of, out_of};
+ghost use Rattle.shelf.specs.Rosters.{out_of};
 ghost use Rattle.shelf.specs.Blocks.{Ready};
 ghost use Rattle.shelf.specs.Checks.{reaching};
 ghost use Rattle.shelf.specs.Promises.{PutsOn, CarriesOn};
@@ -43,9 +43,9 @@ impl Roster {
         change: &mut [u8],
         work: &mut [u8],
     )
-        requires reach { Reach (roster_of self.now).width (length block.now) (roster_of self.now).missing (T.Tray.meaning tray.old) column row.0 work.old }
+        requires reach { Reach self.now.width (length block.now) self.now.missing (T.Tray.meaning tray.old) column row.0 work.old }
         requires change { length change.old ≡ length block.now }
-        ensures { Put (roster_of self.now).width (published (roster_of self.now).width) (length block.now) (out_of (roster_of self.now)) (T.Tray.meaning tray.old) column row.0 block.now (T.Tray.meaning tray.new) }
+        ensures { Put self.now.width (published self.now.width) (length block.now) (out_of self.now) (T.Tray.meaning tray.old) column row.0 block.now (T.Tray.meaning tray.new) }
     {
         let k = self.width();
         let out = self.missing();
@@ -66,10 +66,10 @@ impl Roster {
         block: &[u8],
         work: &mut [u8],
     ) -> Result<(), Fault>
-        ensures value { result ≡ reaching (roster_of self.now) (T.Tray.meaning tray.old) column row (length block.now) (length work.old) }
-        ensures done { PutsOn (roster_of self.now) (T.Tray.meaning tray.old) column row block.now result (T.Tray.meaning tray.new) }
+        ensures value { result ≡ reaching self.now (T.Tray.meaning tray.old) column row (length block.now) (length work.old) }
+        ensures done { PutsOn self.now (T.Tray.meaning tray.old) column row block.now result (T.Tray.meaning tray.new) }
         ensures work { Spares work.old result work.new }
-        ensures carries { CarriesOn (roster_of self.now) (T.Tray.meaning tray.old) (T.Tray.sized tray.old) (told result (sent column row block.now)) (roster_of self.now) (T.Tray.meaning tray.new) (T.Tray.sized tray.new) }
+        ensures carries { CarriesOn self.now (T.Tray.meaning tray.old) (T.Tray.sized tray.old) (told result (sent column row block.now)) self.now (T.Tray.meaning tray.new) (T.Tray.sized tray.new) }
     {
         self.check_place(tray, column, row, block.len(), work.len())?;
         let mut scratch = Scratch::new();

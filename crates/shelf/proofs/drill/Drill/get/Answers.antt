@@ -1,4 +1,3 @@
-use Rattle.shelf.specs.Rosters.{roster_of}
 use Rattle.shelf.proofs.Promised.{get_goes_on_inside}
 use Rattle.shelf.proofs.drill.Drill.get.Goals as goal
 
@@ -10,6 +9,6 @@ returns g c =
       done = h.done;
       work = h.work;
       carries =
-          get_goes_on_inside (roster_of c.args.self.now.roster.now) (g.T.Tray.meaning c.args.tray.now) (g.T.Tray.meaning c.get.new.tray)
+          get_goes_on_inside c.args.self.now.roster.now (g.T.Tray.meaning c.args.tray.now) (g.T.Tray.meaning c.get.new.tray)
           (g.T.Tray.sized c.args.tray.now) (g.T.Tray.sized c.get.new.tray) c.args.column c.args.row c.args.block.now c.get.new.block c.get.result h.done;
     }

@@ -4,7 +4,7 @@ use Rattle.code.specs.Code.{rows}
 use Rattle.code.specs.Neighbours.{published}
 use Rattle.law.specs.Hand.{AtHand}
 use Rattle.shelf.specs.Missing.{is_out}
-use Rattle.shelf.specs.Rosters.{roster_of, out_of}
+use Rattle.shelf.specs.Rosters.{out_of}
 use Rattle.shelf.specs.Hands.{Reach}
 use Rattle.shelf.proofs.OneBlock.{one_slot}
 use Rattle.shelf.proofs.Handing.{within_work}
@@ -14,7 +14,7 @@ use Rattle.shelf.proofs.roster.Roster.exchange.Goals as goal
 
 pub hand-requires : goal.hand-requires
 hand-requires g c =
-    subst (λ n. Reach c.args.self.now.width.number n c.args.self.now.missing (g.T.Tray.meaning c.args.tray.now) c.args.column c.args.row.0 c.args.work.now)
+    subst (λ n. Reach c.args.self.now.width n c.args.self.now.missing (g.T.Tray.meaning c.args.tray.now) c.args.column c.args.row.0 c.args.work.now)
     (sym c.requires.change) c.requires.reach
 
 pub add-requires : goal.add-requires
@@ -23,7 +23,7 @@ add-requires g c = omega arith
 pub write_served-requires : goal.write_served-requires
 write_served-requires g c =
     λ o.
-    let k = c.args.self.now.width.number in
+    let k = c.args.self.now.width in
     let out = is_out c.args.self.now.missing in
     let size = length c.args.block.now in
     let m = g.T.Tray.meaning c.args.tray.now in
@@ -35,13 +35,13 @@ write_served-requires g c =
 
 pub slice_bounds-add_to_parities-end : goal.slice_bounds-add_to_parities-end
 slice_bounds-add_to_parities-end g c =
-    let l = within_work c.args.self.now.width.number (length c.args.block.now) c.args.work.now c.requires.reach.room in
+    let l = within_work c.args.self.now.width (length c.args.block.now) c.args.work.now c.requires.reach.room in
     let l' : length c.args.block.now ≤ length c.hand.new.work = omega arith in
     search rules
 
 pub add_to_parities-requires : goal.add_to_parities-requires
 add_to_parities-requires g c =
-    let k = c.args.self.now.width.number in
+    let k = c.args.self.now.width in
     let missing = c.args.self.now.missing in
     let x = c.args.block.now in
     let m = g.T.Tray.meaning c.args.tray.now in
@@ -59,7 +59,7 @@ add_to_parities-requires g c =
 
 pub returns : goal.returns
 returns g c =
-    let r = roster_of c.args.self.now in
+    let r = c.args.self.now in
     let k = r.width in
     let out = out_of r in
     let m = g.T.Tray.meaning c.args.tray.now in

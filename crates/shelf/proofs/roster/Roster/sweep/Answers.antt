@@ -1,7 +1,6 @@
 use Rattle.std.proofs.Common.{length, Ok, sym, refl, ◌∙◌, subst, rules}
 use Rattle.std.proofs.lemmas.Result.{err_from_is_err_and}
 use Rattle.law.specs.Promises.{Spares}
-use Rattle.shelf.specs.Rosters.{roster_of}
 use Rattle.shelf.specs.Promises.{SweepsOn}
 use Rattle.shelf.proofs.Limits.{is_width-kept}
 use Rattle.shelf.proofs.Promised.{sweep_goes_on}
@@ -11,14 +10,14 @@ use Rattle.shelf.proofs.roster.Roster.sweep.Goals as goal
 pub compare-requires : goal.compare-requires
 compare-requires g c =
     let h =
-    sweep_ready (roster_of c.args.self.now) (g.T.Tray.meaning c.args.tray.now) c.args.work.now
-    (sym c.check_sweep.ensures ∙ c.in_ok-check_sweep.was) (is_width-kept (roster_of c.args.self.now) c.args.self.now.kept)
+    sweep_ready c.args.self.now (g.T.Tray.meaning c.args.tray.now) c.args.work.now
+    (sym c.check_sweep.ensures ∙ c.in_ok-check_sweep.was) (is_width-kept c.args.self.now c.width.ensures.kept)
     c.width.result.number c.width.ensures.value (length c.block.result.now) (c.block.ensures ∙ c.size.ensures.value) in
     record { room = h.0; heard = h.1 }
 
 pub returns : goal.returns
 returns g c =
-    let r = roster_of c.args.self.now in
+    let r = c.args.self.now in
     let m = g.T.Tray.meaning c.args.tray.now in
     let m' = g.T.Tray.meaning c.compare.new.tray in
     let found = c.compare.result in
@@ -35,7 +34,7 @@ returns g c =
 
 pub returns-in_err-check_sweep : goal.returns-in_err-check_sweep
 returns-in_err-check_sweep g c =
-    let r = roster_of c.args.self.now in
+    let r = c.args.self.now in
     let m = g.T.Tray.meaning c.args.tray.now in
     let sized = g.T.Tray.sized c.args.tray.now in
     let work = c.args.work.now in
