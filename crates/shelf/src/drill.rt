@@ -25,7 +25,7 @@ impl Drop for Drill<'_> {
         ensures { self.exit.0.now ≡ ended self.entry.taken self.entry.column self.entry.roster.now }
     {
         let column = self.column;
-        if let Ok(()) = self.taken {
+        if self.taken.is_ok() {
             self.roster.put_back(column);
         }
         let Drill {

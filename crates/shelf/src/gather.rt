@@ -10,7 +10,7 @@ ghost use Rattle.shelf.specs.Reading.{Answers, Heard, after_reads, times, each_b
 
 use crate::blocks::fetch;
 use crate::roster::missing::Missing;
-use crate::slots::{clear_slot, fetch_slot};
+use crate::slots::fetch_slot;
 use crate::sums::add_place;
 use code::places::Row;
 use code::widths::Width;
@@ -22,9 +22,9 @@ fn clear(k: Width, first: usize, size: usize, work: &mut [u8])
     requires first { first ≤ rows k.number }
     ensures { Filled size work.old first (rows k.number) (λ _ _. 0) work.new }
 {
-    for row in 0..k.rows() {
-        clear_slot(work, first + row as usize, size);
-    }
+    let at = first * size;
+    let end = at + k.rows() as usize * size;
+    work[at..end].fill(0);
 }
 
 // Reads a column once into the slots from `first` on, one for each row.

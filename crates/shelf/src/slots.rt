@@ -29,15 +29,6 @@ pub(crate) fn copy_slot(work: &[u8], slot: usize, block: &mut [u8])
     block.copy_from_slice(&work[at..end]);
 }
 
-// Fills a slot with zeros.
-pub(crate) fn clear_slot(work: &mut [u8], slot: usize, size: usize)
-    requires { (slot + 1) * size ≤ length work.old }
-    ensures { SlotSet size work.old slot (λ _. 0) work.new }
-{
-    let at = slot * size;
-    work[at..at + size].fill(0);
-}
-
 // Reads a block of a tray straight into a slot.
 pub(crate) fn fetch_slot<T: Tray>(
     tray: &mut T,

@@ -1,14 +1,21 @@
-use Rattle.std.proofs.Common.{◌+◌, arith}
-use Rattle.shelf.proofs.Adding.{has_slot, room_kept, filled_none, filled_more}
+use Rattle.std.proofs.Common.{◌+◌, ◌-◌, ◌*◌, ◌≤◌, length, subst, mul-le-mul_right, add-mul, arith}
+use borrow.Rule.Slice.PartMut.{put_mid}
+use Rattle.std.proofs.lemmas.List.{places}
+use Rattle.code.specs.Code.{rows}
+use Rattle.shelf.specs.Slots.{Filled}
+use Rattle.shelf.proofs.Indices.{slots_zeroed}
 use Rattle.shelf.proofs.gather.clear.Goals as goal
 
-pub loop-row-init : goal.loop-row-init
-loop-row-init c = filled_none c.args.size c.args.work.now c.args.first (λ _ _. 0)
-
-pub clear_slot-requires : goal.clear_slot-requires
-clear_slot-requires c =
-    let e = c.rows-row-end.ensures.value in
-    has_slot c.args.k.number c.args.size c.loop-row.work (room_kept _ _ _ _ c.requires.room c.loop-row.auto.work) (c.args.first + c.loop-row.row) (omega arith)
-
-pub loop-row-preserved : goal.loop-row-preserved
-loop-row-preserved c = filled_more c.args.size c.args.work.now c.args.first c.loop-row.row (λ _ _. 0) c.loop-row.work _ c.loop-row.invariant c.clear_slot.ensures
+pub returns : goal.returns
+returns c =
+    let first = c.args.first in
+    let size = c.args.size in
+    let work = c.args.work.now in
+    let n = c.rows.result in
+    let zeros = c.fill.new.self in
+    let after = c.fill.ensures.after (λ y e. e) in
+    let fits : (first + n) * size ≤ length work =
+    omega (arith, mul-le-mul_right {m = first + n} {n = 2 * rows c.args.k.number} size (omega (arith, c.rows.ensures.value)), c.requires.room.large) in
+    let l : first * size + n * size ≤ length work = omega (arith, add-mul first n size, fits) in
+    subst (λ m. Filled size work first m (λ _ _. 0) (put_mid (first * size) (first * size + n * size - first * size) work zeros)) c.rows.ensures.value
+    (slots_zeroed size work first n zeros fits (omega arith) (λ k. grind (arith, places)))
