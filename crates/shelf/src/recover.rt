@@ -11,6 +11,7 @@ ghost use Rattle.shelf.specs.Recovering.{is_sole_data, slot_for, Found, Finds};
 use crate::gather::gather;
 use crate::roster::missing::Missing;
 use crate::solve::{solve, spread};
+use crate::sums::line_slot;
 use code::neighbours::is_right;
 use code::places::Row;
 use code::widths::Width;
@@ -25,7 +26,7 @@ pub(crate) fn slot_for(k: Width, by: u32, column: u32, row: Row) -> usize
     if column == by {
         row.0 as usize
     } else if column < k.number {
-        k.rows() as usize + row.line(column).0 as usize
+        line_slot(k, row.line(column))
     } else {
         k.rows() as usize + row.0 as usize
     }

@@ -1,5 +1,5 @@
-use Rattle.std.proofs.Common.{◌+◌, sym, ap, ◌∙◌, ap₂, arith}
-use Rattle.code.proofs.Limits.{a_width}
+use Rattle.std.proofs.Common.{◌+◌, sym, ap, ◌∙◌, arith}
+use Rattle.code.specs.Code.{rows}
 use Rattle.code.proofs.Rows.{meets_lt}
 use Rattle.shelf.proofs.Recovered.{by_rows, by_line, by_number}
 use Rattle.shelf.proofs.recover.slot_for.Goals as goal
@@ -9,18 +9,17 @@ returns-then-column-by c = record { value = sym (by_rows c.args.k.number c.args.
 
 pub returns-then-column-k : goal.returns-then-column-k
 returns-then-column-k c =
-    let w = a_width c.args.k.number c.args.k.valid in
-    let r = c.rows.ensures.value in
+    let k = c.args.k.number in
     let e = c.line.ensures.within (omega arith) in
-    let l = meets_lt c.args.k.number c.args.row.0 c.args.column c.requires c.if-column-k.true in
+    let l = meets_lt k c.args.row.0 c.args.column c.requires c.if-column-k.true in
     record {
-      value = ap₂ (λ x y. x + y) r e ∙ sym (by_line c.args.k.number c.args.by c.args.column c.args.row.0 c.if-column-by.false c.if-column-k.true);
+      value = c.line_slot.ensures ∙ ap (λ n. rows k + n) e ∙ sym (by_line k c.args.by c.args.column c.args.row.0 c.if-column-by.false c.if-column-k.true);
       within = omega arith;
     }
 
 pub returns-else-column-k : goal.returns-else-column-k
 returns-else-column-k c =
-    let r = c.rows-else-column-k.ensures.value in
+    let r = c.rows.ensures.value in
     record {
       value = ap (λ x. x + c.args.row.0) r ∙ sym (by_number c.args.k.number c.args.by c.args.column c.args.row.0 c.if-column-by.false c.if-column-k.false);
       within = omega arith;
