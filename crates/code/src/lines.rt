@@ -19,47 +19,6 @@ pub fn is_taken(k: u32, row: Row, through: u32, column: u32) -> bool
     through == column || (row.is_dark(through) && is_right(k, through, column))
 }
 
-// Adds the places that a line takes where it meets the data column `through` in this row.
-fn add_places(
-    places: &mut Vec<(u32, u32)>,
-    k: u32,
-    row: Row,
-    through: u32,
-) -> Result<(), AllocError>
-    ensures { OnOk result (places.new.items ≡ places.old.items ++ in_row row.0 (those k (takes (published k) row.0 through))) }
-{
-    for column in 0..k {
-        if is_taken(k, row, through, column) {
-            places.push((row.0, column))?;
-        }
-    }
-    Ok(())
-}
-
-// Adds the places that a line sums.
-fn add_line(places: &mut Vec<(u32, u32)>, k: u32, line: Line) -> Result<(), AllocError>
-    requires { k ≤ 32 }
-    ensures { OnOk result (places.new.items ≡ places.old.items ++ places_of k (published k) line.0) }
-{
-    for through in 0..k {
-        add_places(places, k, line.meeting(through), through)?;
-    }
-    Ok(())
-}
-
-// Adds the lines whose sums hold a place.
-fn add_lines(lines: &mut Vec<Line>, k: u32, row: Row, column: u32) -> Result<(), AllocError>
-    requires { k ≤ 32 }
-    ensures { OnOk result (numbers lines.new.items ≡ numbers lines.old.items ++ lines_of k (published k) row.0 column) }
-{
-    for through in 0..k {
-        if is_taken(k, row, through, column) {
-            lines.push(row.line(through))?;
-        }
-    }
-    Ok(())
-}
-
 // Whether width k has this line.
 fn is_line(k: u32, line: Line) -> bool
     ensures { result ≡ is_line k line.0 }
@@ -79,9 +38,17 @@ pub fn places_of(heap: Global, k: u32, line: Line) -> Result<Vec<(u32, u32)>, Al
     ensures listed { IfOk result (λ v. v.items ≡ (if is_line k line.0 then places_of k (published k) line.0 else [])) }
     ensures summed { IfOk result (λ v. is_line k line.0 ≡ true → (D : Blocks) → butterfly k (published k) D line.0 ≡ sum_of D v.items) }
 {
+    if !is_line(k, line) {
+        return Ok(Vec::new(heap));
+    }
     let mut places = Vec::new(heap);
-    if is_line(k, line) {
-        add_line(&mut places, k, line)?;
+    for through in 0..k {
+        let row = line.meeting(through);
+        places.extend(
+            (0..k)
+                .filter(|&column| is_taken(k, row, through, column))
+                .map(|column| (row.0, column)),
+        )?;
     }
     Ok(places)
 }
@@ -91,11 +58,13 @@ pub fn lines_of(heap: Global, k: u32, row: Row, column: u32) -> Result<Vec<Line>
     ensures listed { IfOk result (λ v. numbers v.items ≡ (if is_place k row.0 column then lines_of k (published k) row.0 column else [])) }
     ensures holding { IfOk result (λ v. is_place k row.0 column ≡ true → (n : ℕ) → holds k (published k) n row.0 column ≡ among n (numbers v.items)) }
 {
-    let mut lines = Vec::new(heap);
-    if is_place(k, row, column) {
-        add_lines(&mut lines, k, row, column)?;
+    if !is_place(k, row, column) {
+        return Ok(Vec::new(heap));
     }
-    Ok(lines)
+    (0..k)
+        .filter(|&through| is_taken(k, row, through, column))
+        .map(|through| row.line(through))
+        .collect(heap)
 }
 
 // Facts of the code against tables written by hand.
@@ -157,13 +126,10 @@ mod tests {
     fn half_of_the_rows_are_dark(rt: HostRuntime) {
         for k in [3u32, 5, 7, 9, 11] {
             for column in 0..k {
-                let mut dark = 0u32;
-                for row in 0..rows_of(k) {
-                    if Row(row).is_dark(column) {
-                        dark = dark.saturating_add(1);
-                    }
-                }
-                assert_eq!(rt; dark, rows_of(k) / 2);
+                let dark = (0..rows_of(k))
+                    .filter(|&row| Row(row).is_dark(column))
+                    .count();
+                assert_eq!(rt; dark, (rows_of(k) / 2) as usize);
             }
         }
     }
