@@ -8,10 +8,11 @@ pub const LEAST_WIDTH: u32 = 3;
 pub const MOST_WIDTH: u32 = 11;
 
 // Whether a shelf may have k data columns.
+#[tactic(auto, unfolding(crate::specs::Widths::is_width))]
 pub fn is_width(k: u32) -> bool
     ensures { result ≡ is_width k }
 {
-    k >= LEAST_WIDTH && k <= MOST_WIDTH && k % 2 == 1
+    (LEAST_WIDTH..=MOST_WIDTH).contains(&k) && k % 2 == 1
 }
 
 // The rows of each column at width k, which are also its lines; 0 where no shelf has that width.
