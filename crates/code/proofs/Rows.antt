@@ -1,9 +1,10 @@
 -- How the lines turn dark places into white ones.
-use Rattle.std.proofs.Common.{◌≡◌, ℕ, zero, suc, ◌+◌, ◌-◌, ◌*◌, ◌/◌, ◌%◌, ◌^◌, ◌<◌, ◌≤◌, Bool, true, false, cond, not, eqb, ◌≢◌, sym, refl, ap, ◌∙◌, ap₂, add_assoc, mod-lt, one-add, arith, pow_pos, pow_mono, shr-shr}
+use Rattle.std.proofs.Common.{◌≡◌, ℕ, zero, suc, ◌+◌, ◌-◌, ◌*◌, ◌/◌, ◌%◌, ◌^◌, ◌<◌, ◌≤◌, Bool, true, false, cond, not, eqb, ltb, ◌≢◌, sym, refl, ap, ◌∙◌, ap₂, add_assoc, mod-lt, one-add, arith, pow_pos, pow_mono, shr-shr}
 use native.Mathlib.Nat.{div-eq_of_lt}
 use native.Mathlib.Decide.{dec_lt}
+use borrow.Author.Tests.{lt-true, le-false}
 use lib.Count.{ones, ones_step, ones-le}
-use lib.Bits.{bit_xor, xor_comm, xor_assoc, xor_self, xor_zero_r, xor_shr, xor_mod, xor_lt}
+use lib.Bits.{bit_xor, bit_and, and_mask, xor_comm, xor_assoc, xor_self, xor_zero_r, xor_shr, xor_mod, xor_lt}
 use lib.Pow.{ones_lt}
 use Rattle.code.specs.Numbers.{count}
 use Rattle.code.proofs.Count.{count_same}
@@ -126,6 +127,19 @@ pub white_ones : (i : ℕ) → i < 2 ^ 32 → ones (bit_xor i (i * 2)) ≡ count
 white_ones i l =
     ones_count 33 (bit_xor i (i * 2)) (xor_lt 33 i (i * 2) (omega arith) (omega arith))
     ∙ count_same 33 _ _ (λ j _. ap not (sym (gray i j)))
+
+-- a shift of the code shows the bit, or is 0 where it goes past all of them
+pub dark_shift : (i j s : ℕ) → i < 2 ^ 32 → s ≡ cond (ltb j 64) (bit_xor i (i * 2) / 2 ^ j) 0 → eqb (bit_and s 1) 0 ≡ dark i j
+unfolding bit
+dark_shift i j s l e =
+    ap (λ (x : ℕ). eqb x 0) (and_mask s 1 ∙ low (dec_lt j 64)) ∙ sym (gray i j)
+  where
+    low : Dec (j < 64) → s % 2 ^ 1 ≡ bit (bit_xor i (i * 2)) j
+    low (yes h) = ap (λ (x : ℕ). x % 2) (e ∙ ap (λ b. cond b (bit_xor i (i * 2) / 2 ^ j) 0) (sym (lt-true j 64 h)))
+    low (no h) =
+        ap (λ (x : ℕ). x % 2)
+        (e ∙ ap (λ b. cond b (bit_xor i (i * 2) / 2 ^ j) 0) (sym (le-false j 64 (omega arith)))
+        ∙ sym (div-eq_of_lt {n = bit_xor i (i * 2)} {m = 2 ^ j} (omega (arith, xor_lt 33 i (i * 2) (omega arith) (omega arith), pow_mono {i = 33} {j = j} (omega arith)))))
 
 -- above a number's bits all places are dark
 pub dark_above : (t i j : ℕ) → i < 2 ^ t → t < j → dark i j ≡ true

@@ -13,6 +13,7 @@ use crate::widths::rows_of;
 use std::alloc::{AllocError, Global};
 
 // Whether the line that meets the data column `through` in this row takes the block of `column` there.
+#[tactic(auto, unfolding(crate::specs::Lines::takes))]
 pub fn is_taken(k: u32, row: Row, through: u32, column: u32) -> bool
     ensures { result ≡ takes (published k) row.0 through column }
 {

@@ -1,5 +1,5 @@
 // Rows and lines, and the places where they cross the data columns.
-ghost use Rattle.std.specs.Prelude.{◌≡◌, ◌*◌, ◌^◌, ◌<◌, ◌≤◌, not, bit_xor};
+ghost use Rattle.std.specs.Prelude.{◌≡◌, ◌*◌, ◌^◌, ◌<◌, ◌≤◌, min, not, bit_xor};
 ghost use Rattle.code.specs.Numbers.{count};
 ghost use Rattle.code.specs.Code.{dark, meets};
 
@@ -11,19 +11,12 @@ pub struct Row(pub u32);
 #[derive(Clone, Copy, PartialEq, Eq, Debug)]
 pub struct Line(pub u32);
 
-// No number has more bits than these, so that a line crosses all further columns alike.
-const BITS: u32 = 32;
-
-// The one map between rows and lines, which is its own inverse.
+// The one map between rows and lines, which is its own inverse: it turns the bits below the column, and from column 32 on
+// all bits.
 fn cross(n: u32, column: u32) -> u32
-    ensures within { column ≤ 32 → result ≡ meets n column }
-    ensures beyond { 32 < column → result ≡ meets n 32 }
+    ensures { result ≡ meets n (min column 32) }
 {
-    if column < BITS {
-        n ^ ((1 << column) - 1)
-    } else {
-        n ^ u32::MAX
-    }
+    n ^ 1u32.unbounded_shl(column).wrapping_sub(1)
 }
 
 impl Line {
@@ -58,10 +51,7 @@ impl Row {
     pub fn is_dark(self, column: u32) -> bool
         ensures { result ≡ dark self.0 column }
     {
-        if column > BITS {
-            return true;
-        }
-        (self.gray() >> column) & 1 == 0
+        self.gray().unbounded_shr(column) & 1 == 0
     }
 
     // At how many columns the row is white.

@@ -16,6 +16,7 @@ pub fn is_width(k: u32) -> bool
 }
 
 // The rows of each column at width k, which are also its lines; 0 where no shelf has that width.
+#[tactic(auto, unfolding(crate::specs::Widths::is_width, crate::specs::Code::rows))]
 pub fn rows_of(k: u32) -> u32
     ensures { result ≡ (if is_width k then rows k else 0) }
 {

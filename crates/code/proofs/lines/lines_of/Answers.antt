@@ -1,4 +1,4 @@
-use Rattle.std.proofs.Common.{rules, ◌≡◌, ℕ, min, map, refl, ap, ◌∙◌, sym, cond, [], IfOk, arith}
+use Rattle.std.proofs.Common.{rules, ◌≡◌, min, refl, ap, ◌∙◌, sym, cond, [], IfOk, arith}
 use borrow.Author.Tests.{tests}
 use Rattle.std.proofs.lemmas.Iterator.{YieldsList-from_range, YieldsList-from_map_by}
 use Rattle.std.proofs.lemmas.Iterator.Consumers.{YieldsList-at, YieldsList-from_filter, map_from_collect}

@@ -1,13 +1,11 @@
-use Rattle.std.proofs.Common.{rules, ◌≡◌, ℕ, ◌++◌, map, vec_items, refl, ap, ap₂, ◌∙◌, sym, cond, [], OnOk, arith}
+use Rattle.std.proofs.Common.{rules, ◌≡◌, ◌++◌, vec_items, refl, ap, ap₂, ◌∙◌, sym, cond, [], arith}
 use borrow.Author.Tests.{tests}
-use Rattle.std.specs.List.{filter, range_with_len}
 use Rattle.std.proofs.lemmas.Iterator.{YieldsList-from_range, YieldsList-from_map}
 use Rattle.std.proofs.lemmas.Iterator.Adapters.{items_from_extend}
 use Rattle.std.proofs.lemmas.Iterator.Consumers.{YieldsList-at, YieldsList-from_filter}
 use Rattle.std.proofs.lemmas.Result.{IfOk-at_ok}
 use Rattle.code.specs.Numbers.{those}
 use Rattle.code.specs.Code.{meets}
-use Rattle.code.specs.Widths.{is_line}
 use Rattle.code.specs.Neighbours.{published}
 use Rattle.code.specs.Lines.{takes, in_row, places_below, places_of, sum_of}
 use Rattle.code.proofs.Limits.{a_width, line_width, law_of_width}
