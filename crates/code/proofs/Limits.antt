@@ -1,5 +1,6 @@
 -- What a width is.
-use Rattle.std.proofs.Common.{◌≡◌, ℕ, ◌-◌, ◌%◌, ◌<◌, ◌≤◌, Bool, true, false, ◌&&◌, ltb, refl, arith, pow_pos, pow_mono}
+use Rattle.std.proofs.Common.{◌≡◌, ℕ, ◌-◌, ◌%◌, ◌<◌, ◌≤◌, true, ◌&&◌, ltb, arith, pow_pos, pow_mono}
+use Rattle.std.proofs.lemmas.Bool.{and_parts}
 use Rattle.std.proofs.lemmas.Bool.Decides.{nat_tests}
 use Rattle.code.specs.Code.{rows}
 use Rattle.code.specs.Neighbours.{Tournament, published}
@@ -26,12 +27,8 @@ pub some_rows : (k : ℕ) → 0 < rows k
 unfolding rows
 some_rows k = pow_pos (k - 1)
 
-first : (b c : Bool) → b && c ≡ true → b ≡ true
-first true c e = refl
-first false c e = e
-
 pub line_width : (k n : ℕ) → is_line k n ≡ true → is_width k ≡ true
-line_width k n e = first (is_width k) (ltb n (rows k)) e
+line_width k n e = (and_parts (is_width k) (ltb n (rows k)) e).0
 
 pub place_width : (k i j : ℕ) → is_place k i j ≡ true → is_width k ≡ true
-place_width k i j e = first (is_width k) (ltb i (rows k) && ltb j k) e
+place_width k i j e = (and_parts (is_width k) (ltb i (rows k) && ltb j k) e).0

@@ -4,6 +4,7 @@ use lib.Bits.{bit_xor, xor_assoc, xor_zero_r}
 use borrow.Author.Tests.{eq-true, ne_false, eqb-false}
 use Rattle.std.specs.List.{filter, range_with_len}
 use native.Mathlib.Decide.{dec_lt}
+use Rattle.std.proofs.Math.Bool.{or_assoc}
 use Rattle.std.proofs.Math.Nat.{min-eq_left, min-eq_right}
 use Rattle.std.proofs.lemmas.List.{map-append}
 use Rattle.std.proofs.lemmas.List.Elements.{filter-append}
@@ -26,10 +27,7 @@ pub those_listed : (n : ℕ) (f : ℕ → Bool) → filter f (range_with_len 0 n
 unfolding those
 those_listed zero f = refl
 those_listed (suc n) f =
-    ap (filter f) (range_more n) ∙ filter-append f (range_with_len 0 n) (n ∷ []) ∙ ap₂ (λ xs ys. xs ++ ys) (those_listed n f) (one (f n))
-  where
-    one : (b : Bool) → cond b (n ∷ []) [] ≡ cond b (n ∷ []) []
-    one b = refl
+    ap (filter f) (range_more n) ∙ filter-append f (range_with_len 0 n) (n ∷ []) ∙ ap₂ (λ xs ys. xs ++ ys) (those_listed n f) refl
 
 map_those : {A : Type 0} (n : ℕ) (f : ℕ → Bool) (g h : ℕ → A) → ((t : ℕ) → t < n → g t ≡ h t) → map g (those n f) ≡ map h (those n f)
 unfolding those
@@ -129,11 +127,7 @@ module _ (D : Blocks) where
 among_append : (n : ℕ) (xs ys : List ℕ) → among n (xs ++ ys) ≡ among n xs || among n ys
 unfolding among
 among_append n [] ys = refl
-among_append n (x ∷ xs) ys = ap (λ b. eqb x n || b) (among_append n xs ys) ∙ regroup (eqb x n) (among n xs) (among n ys)
-  where
-    regroup : (a b c : Bool) → a || (b || c) ≡ (a || b) || c
-    regroup true b c = refl
-    regroup false b c = refl
+among_append n (x ∷ xs) ys = ap (λ b. eqb x n || b) (among_append n xs ys) ∙ sym (or_assoc (eqb x n) (among n xs) (among n ys))
 
 among_those : (n m : ℕ) (g : ℕ → ℕ) (f : ℕ → Bool) → among n (map g (those m f)) ≡ any m (λ t. eqb (g t) n && f t)
 unfolding among those any

@@ -4,6 +4,8 @@ use mathlib.Core.Path.{fun_ext}
 use native.Mathlib.Decide.{dec_lt}
 use lib.Bits.{bit_xor, xor_assoc, xor_self, xor_zero_r}
 use lib.Pow.{pow-lt}
+use Rattle.std.proofs.Math.Bool.{and-true, or-false}
+use Rattle.std.proofs.lemmas.Bool.{and_parts}
 use borrow.Author.Tests.{eq-true, ne_false}
 use Rattle.code.specs.Numbers.{only, xorsum, any}
 use Rattle.code.specs.Code.{Blocks, Rule, spot, dark, meets, horizontal, beside, gives, butterfly}
@@ -21,14 +23,6 @@ any_none (suc k) c h = ap₂ (λ a b. a || b) (any_none k c (λ j l. h j (omega 
 pub not_so : (b : Bool) → (b ≡ true → ⊥) → b ≡ false
 not_so true h = absurd (h refl)
 not_so false h = refl
-
-or_false : (b : Bool) → b || false ≡ b
-or_false true = refl
-or_false false = refl
-
-and_true : (b : Bool) → b && true ≡ b
-and_true true = refl
-and_true false = refl
 
 only_off : (b : Bool) (x : ℕ) → only (b && false) x ≡ 0
 unfolding only
@@ -49,7 +43,7 @@ sum_only (suc k) x c h = go (c k) refl (sum_only k x c (λ a b al bl. h a b (ome
     go : (b : Bool) → c k ≡ b → xorsum k (λ j. only (c j) x) ≡ only (any k c) x → bit_xor (xorsum k (λ j. only (c j) x)) (only (c k) x) ≡ only (any k c || c k) x
     go false e ih =
         ap (λ b. bit_xor (xorsum k (λ j. only (c j) x)) (only b x)) e ∙ xor_zero_r (xorsum k (λ j. only (c j) x)) ∙ ih
-        ∙ ap (λ b. only b x) (sym (or_false (any k c)) ∙ ap (λ b. any k c || b) (sym e))
+        ∙ ap (λ b. only b x) (sym (or-false (any k c)) ∙ ap (λ b. any k c || b) (sym e))
     go true e ih =
         let z : any k c ≡ false = any_none k c (λ j l. not_so (c j) (λ t. omega (arith, h j k (omega arith) (omega arith) t e))) in
         ap₂ bit_xor (ih ∙ ap (λ b. only b x) z) (ap (λ b. only b x) e) ∙ ap₂ (λ a b. only (a || b) x) (sym z) (sym e)
@@ -82,7 +76,7 @@ mix true true true d' false x h g = xor_zero_r x
 mix true true false d' false x h g = xor_zero_r x
 mix true false true d' false x h g = sym (only_off d' x)
 mix true false false d' false x h g = sym (only_off d' x)
-mix true false d d' true x h g = ap (λ b. only b x) (h refl ∙ sym (and_true d'))
+mix true false d d' true x h g = ap (λ b. only b x) (h refl ∙ sym (and-true d'))
 
 module _ (k : ℕ) (right : Rule) (law : Tournament k right) (i j x : ℕ) (jk : j < k) where
   spot_off : (u j' : ℕ) → j' ≢ j → spot i j x u j' ≡ 0
@@ -91,7 +85,7 @@ module _ (k : ℕ) (right : Rule) (law : Tournament k right) (i j x : ℕ) (jk :
 
   spot_on : (u : ℕ) → spot i j x u j ≡ only (eqb u i) x
   unfolding spot
-  spot_on u = ap (λ t. only (eqb u i && t) x) (sym (eq-true j j refl)) ∙ ap (λ t. only t x) (and_true (eqb u i))
+  spot_on u = ap (λ t. only (eqb u i && t) x) (sym (eq-true j j refl)) ∙ ap (λ t. only t x) (and-true (eqb u i))
 
   pub row_spot : (r : ℕ) → horizontal k (spot i j x) r ≡ only (eqb r i) x
   unfolding horizontal
@@ -119,12 +113,8 @@ module _ (k : ℕ) (right : Rule) (law : Tournament k right) (i j x : ℕ) (jk :
       passes : ℕ → Bool
       passes j' = eqb (meets n j') i && takes right i j' j
 
-      left : (b c : Bool) → b && c ≡ true → b ≡ true
-      left true c e = refl
-      left false c e = e
-
       in_row : (a : ℕ) → passes a ≡ true → meets n a ≡ i
-      in_row a t = eqb-true (meets n a) i (left (eqb (meets n a) i) (takes right i a j) t)
+      in_row a t = eqb-true (meets n a) i (and_parts (eqb (meets n a) i) (takes right i a j) t).0
 
 -- the old data and the new differ in a spot
 module _ (D : Blocks) (i j x : ℕ) where

@@ -1,10 +1,11 @@
 -- How the lines turn dark places into white ones.
-use Rattle.std.proofs.Common.{◌≡◌, ℕ, zero, suc, ◌+◌, ◌-◌, ◌*◌, ◌/◌, ◌%◌, ◌^◌, ◌<◌, ◌≤◌, Bool, true, false, cond, not, eqb, ltb, ◌≢◌, sym, refl, ap, ◌∙◌, ap₂, add_assoc, mod-lt, one-add, arith, pow_pos, pow_mono, shr-shr}
-use native.Mathlib.Nat.{div-eq_of_lt}
+use Rattle.std.proofs.Common.{◌≡◌, ℕ, zero, suc, ◌+◌, ◌-◌, ◌*◌, ◌/◌, ◌%◌, ◌^◌, ◌<◌, Bool, true, cond, not, eqb, ltb, ◌≢◌, sym, refl, ap, ◌∙◌, ap₂, add_assoc, mod-lt, arith, pow_mono}
 use native.Mathlib.Decide.{dec_lt}
-use borrow.Author.Tests.{lt-true, le-false}
+use Rattle.std.proofs.Math.Bool.{not-not}
+use Rattle.std.proofs.lemmas.Bool.{cond-true, cond-false, lt-ltb, le-ltb}
+use Rattle.std.proofs.lemmas.Nat.Bits.{shr_and_one, bit_at-suc, bit_at-lt, bit_at_ones, bit_at_ones_above, bit_at_above}
 use lib.Count.{ones, ones_step, ones-le}
-use lib.Bits.{bit_xor, bit_and, and_mask, xor_comm, xor_assoc, xor_self, xor_zero_r, xor_shr, xor_mod, xor_lt}
+use lib.Bits.{bit_xor, bit_and, xor_comm, xor_assoc, xor_self, xor_zero_r, xor_shr, xor_mod, xor_lt}
 use lib.Pow.{ones_lt}
 use Rattle.code.specs.Numbers.{count}
 use Rattle.code.proofs.Count.{count_same}
@@ -16,33 +17,10 @@ bit-bit_xor : (a b j : ℕ) → bit (bit_xor a b) j ≡ bit_xor (bit a j) (bit b
 unfolding bit
 bit-bit_xor a b j = ap (λ (x : ℕ). x % 2) (xor_shr a b j) ∙ xor_mod (a / 2 ^ j) (b / 2 ^ j) 1
 
-bit_suc : (a j : ℕ) → bit a (suc j) ≡ bit (a / 2) j
-unfolding bit
-bit_suc a j = ap (λ (x : ℕ). x % 2) (sym (shr-shr a 1 j ∙ ap (λ (x : ℕ). a / 2 ^ x) (one-add j)))
-
-zero_bit : (j : ℕ) → bit 0 j ≡ 0
-unfolding bit
-zero_bit j = omega arith
-
--- the t low bits of 2 ^ t - 1 are set, and no other
-low_bit : (t j : ℕ) → j < t → bit (2 ^ t - 1) j ≡ 1
-low_bit zero j l = omega arith
-low_bit (suc t) zero l = unfold bit in omega (arith, pow_pos t)
-low_bit (suc t) (suc j) l = bit_suc (2 ^ suc t - 1) j ∙ ap (λ (x : ℕ). bit x j) (omega (arith, pow_pos t)) ∙ low_bit t j (omega arith)
-
-high_bit : (t j : ℕ) → t ≤ j → bit (2 ^ t - 1) j ≡ 0
-high_bit zero j l = zero_bit j
-high_bit (suc t) zero l = omega arith
-high_bit (suc t) (suc j) l = bit_suc (2 ^ suc t - 1) j ∙ ap (λ (x : ℕ). bit x j) (omega (arith, pow_pos t)) ∙ high_bit t j (omega arith)
-
-bit_lt : (a j : ℕ) → bit a j < 2
-unfolding bit
-bit_lt a j = omega arith
-
 under_lt : (a j : ℕ) → under a j < 2
-unfolding under
+unfolding bit under
 under_lt a zero = omega arith
-under_lt a (suc j) = bit_lt a j
+under_lt a (suc j) = bit_at-lt a j
 
 under_xor : (a b j : ℕ) → under (bit_xor a b) j ≡ bit_xor (under a j) (under b j)
 unfolding under
@@ -70,31 +48,31 @@ module _ (n t i : ℕ) where
   same₀ e f = turned 0 0 e f ∙ ap₂ eqb (xor_zero_r (bit n i)) (xor_zero_r (under n i))
 
   same₁ : bit (2 ^ t - 1) i ≡ 1 → under (2 ^ t - 1) i ≡ 1 → dark (meets n t) i ≡ dark n i
-  unfolding dark
-  same₁ e f = turned 1 1 e f ∙ bits_ind (λ a b. eqb (bit_xor a 1) (bit_xor b 1) ≡ eqb a b) refl refl refl refl (bit n i) (under n i) (bit_lt n i) (under_lt n i)
+  unfolding bit dark
+  same₁ e f = turned 1 1 e f ∙ bits_ind (λ a b. eqb (bit_xor a 1) (bit_xor b 1) ≡ eqb a b) refl refl refl refl (bit n i) (under n i) (bit_at-lt n i) (under_lt n i)
 
   flip₀ : bit (2 ^ t - 1) i ≡ 0 → under (2 ^ t - 1) i ≡ 1 → dark (meets n t) i ≡ not (dark n i)
-  unfolding dark
-  flip₀ e f = turned 0 1 e f ∙ bits_ind (λ a b. eqb (bit_xor a 0) (bit_xor b 1) ≡ not (eqb a b)) refl refl refl refl (bit n i) (under n i) (bit_lt n i) (under_lt n i)
+  unfolding bit dark
+  flip₀ e f = turned 0 1 e f ∙ bits_ind (λ a b. eqb (bit_xor a 0) (bit_xor b 1) ≡ not (eqb a b)) refl refl refl refl (bit n i) (under n i) (bit_at-lt n i) (under_lt n i)
 
   flip₁ : bit (2 ^ t - 1) i ≡ 1 → under (2 ^ t - 1) i ≡ 0 → dark (meets n t) i ≡ not (dark n i)
-  unfolding dark
-  flip₁ e f = turned 1 0 e f ∙ bits_ind (λ a b. eqb (bit_xor a 1) (bit_xor b 0) ≡ not (eqb a b)) refl refl refl refl (bit n i) (under n i) (bit_lt n i) (under_lt n i)
+  unfolding bit dark
+  flip₁ e f = turned 1 0 e f ∙ bits_ind (λ a b. eqb (bit_xor a 1) (bit_xor b 0) ≡ not (eqb a b)) refl refl refl refl (bit n i) (under n i) (bit_at-lt n i) (under_lt n i)
 
 -- ---- a row's Gray code has the bits that differ from those under them: the white places
 
 doubled : (i j : ℕ) → under i j ≡ bit (i * 2) j
-unfolding under
-doubled i zero = unfold bit in omega arith
-doubled i (suc j) = ap (λ (x : ℕ). bit x j) (sym halved) ∙ sym (bit_suc (i * 2) j)
+unfolding bit under
+doubled i zero = omega arith
+doubled i (suc j) = ap (λ (x : ℕ). bit x j) (sym halved) ∙ sym (bit_at-suc (i * 2) j)
   where
     halved : i * 2 / 2 ≡ i
     halved = omega arith
 
 pub gray : (i j : ℕ) → dark i j ≡ eqb (bit (bit_xor i (i * 2)) j) 0
-unfolding dark
+unfolding bit dark
 gray i j =
-    bits_ind (λ a b. eqb a b ≡ eqb (bit_xor a b) 0) refl refl refl refl (bit i j) (under i j) (bit_lt i j) (under_lt i j)
+    bits_ind (λ a b. eqb a b ≡ eqb (bit_xor a b) 0) refl refl refl refl (bit i j) (under i j) (bit_at-lt i j) (under_lt i j)
     ∙ ap (λ (x : ℕ). eqb (bit_xor (bit i j) x) 0) (doubled i j)
     ∙ ap (λ (x : ℕ). eqb x 0) (sym (bit-bit_xor i (i * 2) j))
 
@@ -105,15 +83,15 @@ count_first zero f = omega arith
 count_first (suc k) f = ap (λ (n : ℕ). n + cond (f (suc k)) 1 0) (count_first k f) ∙ add_assoc (cond (f 0) 1 0) (count k (λ j. f (suc j))) (cond (f (suc k)) 1 0)
 
 ones_count : (k x : ℕ) → x < 2 ^ k → ones x ≡ count k (λ j. not (eqb (bit x j) 0))
-unfolding count
+unfolding bit count
 ones_count zero x l = omega (arith, ones-le 0 x l)
 ones_count (suc k) x l =
-    ones_step x ∙ ap₂ (λ (a b : ℕ). a + b) (low (x % 2) (mod-lt x two_pos)) (ones_count k (x / 2) (omega (arith, l)) ∙ count_same k _ _ (λ j _. ap (λ (n : ℕ). not (eqb n 0)) (sym (bit_suc x j))))
+    ones_step x ∙ ap₂ (λ (a b : ℕ). a + b) (low (x % 2) (mod-lt x two_pos)) (ones_count k (x / 2) (omega (arith, l)) ∙ count_same k _ _ (λ j _. ap (λ (n : ℕ). not (eqb n 0)) (sym (bit_at-suc x j))))
     ∙ ap (λ (n : ℕ). cond {A = ℕ} (not (eqb n 0)) 1 0 + count k (λ j. not (eqb (bit x (suc j)) 0))) (sym first)
     ∙ sym (count_first k (λ j. not (eqb (bit x j) 0)))
   where
     first : bit x 0 ≡ x % 2
-    first = unfold bit in omega arith
+    first = omega arith
 
     two_pos : 0 < 2
     two_pos = omega arith
@@ -132,41 +110,39 @@ white_ones i l =
 pub dark_shift : (i j s : ℕ) → i < 2 ^ 32 → s ≡ cond (ltb j 64) (bit_xor i (i * 2) / 2 ^ j) 0 → eqb (bit_and s 1) 0 ≡ dark i j
 unfolding bit
 dark_shift i j s l e =
-    ap (λ (x : ℕ). eqb x 0) (and_mask s 1 ∙ low (dec_lt j 64)) ∙ sym (gray i j)
-  where
-    low : Dec (j < 64) → s % 2 ^ 1 ≡ bit (bit_xor i (i * 2)) j
-    low (yes h) = ap (λ (x : ℕ). x % 2) (e ∙ ap (λ b. cond b (bit_xor i (i * 2) / 2 ^ j) 0) (sym (lt-true j 64 h)))
-    low (no h) =
-        ap (λ (x : ℕ). x % 2)
-        (e ∙ ap (λ b. cond b (bit_xor i (i * 2) / 2 ^ j) 0) (sym (le-false j 64 (omega arith)))
-        ∙ sym (div-eq_of_lt {n = bit_xor i (i * 2)} {m = 2 ^ j} (omega (arith, xor_lt 33 i (i * 2) (omega arith) (omega arith), pow_mono {i = 33} {j = j} (omega arith)))))
+    let whole : bit_and s 1 ≡ bit (bit_xor i (i * 2)) j =
+    elim (dec_lt j 64) [
+      | yes h ↦ ap (λ (x : ℕ). bit_and x 1) (e ∙ cond-true (ltb j 64) (bit_xor i (i * 2) / 2 ^ j) 0 (lt-ltb j 64 h)) ∙ shr_and_one (bit_xor i (i * 2)) j
+      | no h ↦
+          ap (λ (x : ℕ). bit_and x 1) (e ∙ cond-false (ltb j 64) (bit_xor i (i * 2) / 2 ^ j) 0 (le-ltb j 64 (omega arith)))
+          ∙ sym (bit_at_above (bit_xor i (i * 2)) 33 j (xor_lt 33 i (i * 2) (omega arith) (omega arith)) (omega arith))
+    ]
+    in
+    ap (λ (x : ℕ). eqb x 0) whole ∙ sym (gray i j)
 
 -- above a number's bits all places are dark
 pub dark_above : (t i j : ℕ) → i < 2 ^ t → t < j → dark i j ≡ true
 unfolding dark bit under
 dark_above t i zero l m = absurd (omega arith)
-dark_above t i (suc j) l m = ap₂ eqb (none (suc j) (omega arith)) (none j (omega arith))
-  where
-    none : (j : ℕ) → t ≤ j → bit i j ≡ 0
-    none j m = ap (λ (x : ℕ). x % 2) (div-eq_of_lt {n = i} {m = 2 ^ j} (omega (arith, pow_mono {i = t} {j = j} m)))
+dark_above t i (suc j) l m = ap₂ eqb (bit_at_above i t (suc j) l (omega arith)) (bit_at_above i t j l (omega arith))
 
 -- ---- one line: it turns place t and place 0
 
 keeps : (n t i : ℕ) → suc i ≢ t → dark (meets n t) (suc i) ≡ dark n (suc i)
-unfolding under
+unfolding bit under
 keeps n t i d =
     elim (dec_lt (suc i) t) [
-      | yes l ↦ same₁ n t (suc i) (low_bit t (suc i) l) (low_bit t i (omega arith))
-      | no l ↦ same₀ n t (suc i) (high_bit t (suc i) (omega arith)) (high_bit t i (omega arith))
+      | yes l ↦ same₁ n t (suc i) (bit_at_ones t (suc i) l) (bit_at_ones t i (omega arith))
+      | no l ↦ same₀ n t (suc i) (bit_at_ones_above t (suc i) (omega arith)) (bit_at_ones_above t i (omega arith))
     ]
 
 flips_own : (n i : ℕ) → dark (meets n (suc i)) (suc i) ≡ not (dark n (suc i))
-unfolding under
-flips_own n i = flip₀ n (suc i) (suc i) (high_bit (suc i) (suc i) (omega arith)) (low_bit (suc i) i (omega arith))
+unfolding bit under
+flips_own n i = flip₀ n (suc i) (suc i) (bit_at_ones_above (suc i) (suc i) (omega arith)) (bit_at_ones (suc i) i (omega arith))
 
 flips_zero : (n t : ℕ) → 0 < t → dark (meets n t) 0 ≡ not (dark n 0)
-unfolding under
-flips_zero n t l = flip₁ n t 0 (low_bit t 0 l) refl
+unfolding bit under
+flips_zero n t l = flip₁ n t 0 (bit_at_ones t 0 l) refl
 
 -- ---- from a row along a line to another row
 
@@ -186,10 +162,6 @@ pub meets_lt : (k n j : ℕ) → n < rows k → j < k → meets n j < rows k
 unfolding rows meets
 meets_lt k n j l m = xor_lt (k - 1) n (2 ^ j - 1) l (omega (arith, ones_lt j, pow_mono {i = j} {j = k - 1} (omega arith)))
 
-not_not : (b : Bool) → not (not b) ≡ b
-not_not true = refl
-not_not false = refl
-
 pub cross_own : (v p j : ℕ) → p ≢ j → dark (meets (meets v p) j) p ≡ not (dark v p)
 cross_own v zero j d = ap (λ (x : ℕ). dark (meets x j) 0) (meets_zero v) ∙ flips_zero v j (omega arith)
 cross_own v (suc p) j d = keeps (meets v (suc p)) j p d ∙ flips_own v p
@@ -198,5 +170,5 @@ pub cross_other : (v p j : ℕ) → p ≢ j → dark (meets (meets v p) j) j ≡
 cross_other v p j d = ap (λ (x : ℕ). dark x j) (meets_comm v p j) ∙ cross_own v j p (λ e. d (sym e))
 
 pub cross_rest : (v p j i : ℕ) → i ≢ p → i ≢ j → dark (meets (meets v p) j) i ≡ dark v i
-cross_rest v p j zero d e = flips_zero (meets v p) j (omega arith) ∙ ap not (flips_zero v p (omega arith)) ∙ not_not (dark v 0)
+cross_rest v p j zero d e = flips_zero (meets v p) j (omega arith) ∙ ap not (flips_zero v p (omega arith)) ∙ not-not (dark v 0)
 cross_rest v p j (suc i) d e = keeps (meets v p) j i e ∙ keeps v p i d
