@@ -1,5 +1,5 @@
 -- How the lines turn dark places into white ones.
-use Rattle.std.proofs.Common.{◌≡◌, ℕ, zero, suc, ◌+◌, ◌-◌, ◌*◌, ◌/◌, ◌%◌, ◌^◌, ◌<◌, Bool, true, cond, not, eqb, ltb, ◌≢◌, sym, refl, ap, ◌∙◌, ap₂, add_assoc, mod-lt, arith, pow_mono}
+use Rattle.std.proofs.Common.{◌≡◌, ℕ, zero, suc, ◌+◌, ◌-◌, ◌*◌, ◌/◌, ◌%◌, ◌^◌, ◌<◌, ◌≤◌, Bool, true, cond, not, eqb, ltb, ◌≢◌, sym, refl, ap, ◌∙◌, ap₂, add_assoc, mod-lt, arith, pow_mono}
 use native.Mathlib.Decide.{dec_lt}
 use Rattle.std.proofs.Math.Bool.{not-not}
 use Rattle.std.proofs.lemmas.Bool.{cond-true, cond-false, lt-ltb, le-ltb}
@@ -76,6 +76,9 @@ gray i j =
     ∙ ap (λ (x : ℕ). eqb (bit_xor (bit i j) x) 0) (doubled i j)
     ∙ ap (λ (x : ℕ). eqb x 0) (sym (bit-bit_xor i (i * 2) j))
 
+pub gray_below : (i j : ℕ) → i < 2 ^ 32 → j ≤ i * 2 → bit_xor i j < 2 ^ 33
+gray_below i j l m = xor_lt 33 i j (omega arith) (omega arith)
+
 -- the ones of a number are counted bit by bit
 count_first : (k : ℕ) (f : ℕ → Bool) → count (suc k) f ≡ cond (f 0) 1 0 + count k (λ j. f (suc j))
 unfolding count
@@ -101,13 +104,13 @@ ones_count (suc k) x l =
     low (suc zero) l = refl
     low (suc (suc n)) l = omega arith
 
-pub white_ones : (i : ℕ) → i < 2 ^ 32 → ones (bit_xor i (i * 2)) ≡ count 33 (λ j. not (dark i j))
+pub white_ones : (i : ℕ) → bit_xor i (i * 2) < 2 ^ 33 → ones (bit_xor i (i * 2)) ≡ count 33 (λ j. not (dark i j))
 white_ones i l =
-    ones_count 33 (bit_xor i (i * 2)) (xor_lt 33 i (i * 2) (omega arith) (omega arith))
+    ones_count 33 (bit_xor i (i * 2)) l
     ∙ count_same 33 _ _ (λ j _. ap not (sym (gray i j)))
 
 -- a shift of the code shows the bit, or is 0 where it goes past all of them
-pub dark_shift : (i j s : ℕ) → i < 2 ^ 32 → s ≡ cond (ltb j 64) (bit_xor i (i * 2) / 2 ^ j) 0 → eqb (bit_and s 1) 0 ≡ dark i j
+pub dark_shift : (i j s : ℕ) → bit_xor i (i * 2) < 2 ^ 33 → s ≡ cond (ltb j 64) (bit_xor i (i * 2) / 2 ^ j) 0 → eqb (bit_and s 1) 0 ≡ dark i j
 unfolding bit
 dark_shift i j s l e =
     let whole : bit_and s 1 ≡ bit (bit_xor i (i * 2)) j =
@@ -115,7 +118,7 @@ dark_shift i j s l e =
       | yes h ↦ ap (λ (x : ℕ). bit_and x 1) (e ∙ cond-true (ltb j 64) (bit_xor i (i * 2) / 2 ^ j) 0 (lt-ltb j 64 h)) ∙ shr_and_one (bit_xor i (i * 2)) j
       | no h ↦
           ap (λ (x : ℕ). bit_and x 1) (e ∙ cond-false (ltb j 64) (bit_xor i (i * 2) / 2 ^ j) 0 (le-ltb j 64 (omega arith)))
-          ∙ sym (bit_at_above (bit_xor i (i * 2)) 33 j (xor_lt 33 i (i * 2) (omega arith) (omega arith)) (omega arith))
+          ∙ sym (bit_at_above (bit_xor i (i * 2)) 33 j l (omega arith))
     ]
     in
     ap (λ (x : ℕ). eqb x 0) whole ∙ sym (gray i j)

@@ -39,9 +39,10 @@ impl Row {
     }
 
     // The row's Gray code: the bits that differ from the one under them.
+    #[tactic(auto, using(crate::proofs::Rows::gray_below))]
     fn gray(self) -> u64
         ensures value { result ≡ bit_xor self.0 (self.0 * 2) }
-        ensures small { self.0 < 2 ^ 32 }
+        ensures below { result < 2 ^ 33 }
     {
         let row = u64::from(self.0);
         row ^ (row << 1)
