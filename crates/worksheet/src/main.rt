@@ -12,19 +12,16 @@ use std::env;
 use std::process::ExitCode;
 
 fn main(rt: HostRuntime) -> anyhow::Result<ExitCode> {
-    let mut k = 3;
-    if let Some(text) = env::args(&rt)?.nth(1) {
-        let Some(width) = width_of(text.as_str()) else {
-            eprintln!(rt;
-                "worksheet: '{text}' is no width: give an odd number from 3 to 11, or nothing for 3"
-            )?;
-            return Ok(ExitCode::FAILURE);
-        };
-        k = width;
-    }
+    let argument = env::args(&rt)?.nth(1);
+    let text = argument.as_deref().unwrap_or("3");
+    let Some(k) = width_of(text) else {
+        eprintln!(rt;
+            "worksheet: '{text}' is no width: give an odd number from 3 to 11, or nothing for 3"
+        )?;
+        return Ok(ExitCode::FAILURE);
+    };
     rt.println(Page(k))?;
-    for n in 0..rows_of(k) {
-        let line = Line(n);
+    for line in (0..rows_of(k)).map(Line) {
         rt.println(Sum {
             line,
             places: places_of(rt.alloc(), k, line)?,

@@ -10,10 +10,7 @@ use std::fmt;
 pub fn width_of(text: &str) -> Option<u32>
     ensures { NamesWidth text.now result }
 {
-    let Ok(k) = text.parse::<u32>() else {
-        return None;
-    };
-    if is_width(k) { Some(k) } else { None }
+    text.parse().ok().filter(|&k| is_width(k))
 }
 
 // The right neighbours of one data column.
@@ -26,10 +23,8 @@ struct Neighbours {
 impl fmt::Display for Neighbours {
     fn fmt<W: fmt::Write>(&self, f: &mut fmt::Formatter<W>) -> fmt::Result {
         write!(f, "{:>4}:", self.column)?;
-        for other in 0..self.k {
-            if is_right(self.k, self.column, other) {
-                write!(f, " {other}")?;
-            }
+        for other in (0..self.k).filter(|&other| is_right(self.k, self.column, other)) {
+            write!(f, " {other}")?;
         }
         Ok(())
     }
@@ -71,8 +66,8 @@ impl fmt::Display for Page {
         }
         writeln!(f)?;
         writeln!(f, "Dark places (#) of each row, by data column:")?;
-        for row in 0..rows {
-            writeln!(f, "{}", Marks { k, row: Row(row) })?;
+        for row in (0..rows).map(Row) {
+            writeln!(f, "{}", Marks { k, row })?;
         }
         writeln!(f)?;
         write!(f, "Places (row,column) that each line sums:")
