@@ -25,14 +25,15 @@ count_less (suc k) f g j l e e' h =
       | no n ↦ omega (arith, count_less k f g j (omega arith) e e' (λ i m. h i (omega arith)), ap (λ b. cond {A = ℕ} b 1 0) (h k (omega arith) (omega arith)))
     ]
 
+-- a test counts for one at most
+pub one_at_most : (b : Bool) → cond {A = ℕ} b 1 0 ≤ 1
+one_at_most true = omega arith
+one_at_most false = omega arith
+
 pub count_le : (k : ℕ) (f : ℕ → Bool) → count k f ≤ k
 unfolding count
 count_le zero f = omega arith
-count_le (suc k) f = omega (arith, count_le k f, at_most (f k))
-  where
-    at_most : (b : Bool) → cond {A = ℕ} b 1 0 ≤ 1
-    at_most true = omega arith
-    at_most false = omega arith
+count_le (suc k) f = omega (arith, count_le k f, one_at_most (f k))
 
 -- a loop counts the next number, or passes over it
 pub count_next : (k : ℕ) (f : ℕ → Bool) → count (k + 1) f ≡ count k f + cond (f k) 1 0

@@ -1,6 +1,7 @@
 -- Half of the rows are dark for a column: a step along two lines turns its dark rows into its white ones.
 use Rattle.std.proofs.Common.{◌≡◌, ℕ, zero, suc, ◌+◌, ◌-◌, ◌*◌, ◌^◌, ◌<◌, ◌≤◌, Bool, true, false, cond, not, ◌≢◌, sym, refl, ap, ◌∙◌, ap₂, add-zero, add_assoc, add-suc, add_comm, arith, pow_pos}
 use native.Mathlib.Decide.{dec_lt}
+use Rattle.std.proofs.Math.Nat.{two-pow-succ}
 use lib.Arith.{lt-one}
 use lib.Bits.{bit_xor, xor_block, xor_assoc, xor_zero_r}
 use Rattle.code.specs.Code.{rows, dark, meets}
@@ -53,7 +54,7 @@ count_xor (suc m) s f l =
           (count_same (2 ^ m) (λ i. f (bit_xor (2 ^ m + i) s)) (λ i. f (2 ^ m + bit_xor i s)) (λ i il. ap f (high_left m i s il h))
           ∙ count_xor m s (λ i. f (2 ^ m + i)) h)
       | no n ↦
-          let h : s - 2 ^ m < 2 ^ m = omega (arith, pow_two m) in
+          let h : s - 2 ^ m < 2 ^ m = omega (arith, two-pow-succ m) in
           let e : s ≡ 2 ^ m + (s - 2 ^ m) = omega arith in
           ap₂ (λ a b. a + b)
           (count_same (2 ^ m) (λ i. f (bit_xor i s)) (λ i. f (2 ^ m + bit_xor i (s - 2 ^ m))) (λ i il. ap f (ap (bit_xor i) e ∙ high_right m i (s - 2 ^ m) il h))
@@ -64,11 +65,8 @@ count_xor (suc m) s f l =
     ]
     ∙ sym (halves f)
   where
-    pow_two : (m : ℕ) → 2 ^ suc m ≡ 2 ^ m + 2 ^ m
-    pow_two m = omega arith
-
     halves : (g : ℕ → Bool) → count (2 ^ suc m) g ≡ count (2 ^ m) g + count (2 ^ m) (λ i. g (2 ^ m + i))
-    halves g = ap (λ n. count n g) (pow_two m) ∙ count_add (2 ^ m) (2 ^ m) g
+    halves g = ap (λ n. count n g) (two-pow-succ m) ∙ count_add (2 ^ m) (2 ^ m) g
 
 -- where column j' is another one, the rows dark for j are as many as the white ones
 turned_half : (k j j' : ℕ) → 2 ≤ k → j < k → j' < k → j ≢ j' → count (rows k) (λ i. dark i j) ≡ 2 ^ (k - 2)

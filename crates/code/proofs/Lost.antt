@@ -1,7 +1,8 @@
 -- Data X whose values are 0 in the columns that are left is 0.
-use Rattle.std.proofs.Common.{◌≡◌, ℕ, zero, suc, ◌<◌, ◌≤◌, Bool, true, false, cond, not, ◌&&◌, eqb, ◌≢◌, sym, refl, ap, ◌∙◌, ap₂, true≢false, arith}
+use Rattle.std.proofs.Common.{◌≡◌, ℕ, zero, suc, ◌<◌, Bool, true, false, cond, not, ◌&&◌, eqb, ◌≢◌, sym, refl, ap, ◌∙◌, ap₂, true≢false, arith}
 use native.Mathlib.Decide.{ℕ_discrete}
 use lib.Bits.{bit_xor, xor_zero_r}
+use Rattle.std.proofs.Math.Bool.{and-true}
 use borrow.Author.Tests.{ne_false, eqb-false, not-false}
 use Rattle.code.specs.Numbers.{only}
 use Rattle.code.specs.Code.{Blocks, Rule, rows, dark, meets, horizontal, beside, gives, butterfly}
@@ -9,7 +10,7 @@ use Rattle.code.specs.Neighbours.{Tournament}
 use Rattle.code.specs.Laws.{light, whites, rank}
 use Rattle.code.proofs.Xor.{xor_zero_eq, xor_eq_zero, only_zero, sum_none, sum_one, sum_two}
 use Rattle.code.proofs.Rows.{back, meets_lt, cross_own, cross_other, cross_rest}
-use Rattle.code.proofs.Count.{count_same, count_less}
+use Rattle.code.proofs.Count.{count_same, count_less, one_at_most}
 
 module _ (k : ℕ) (right : Rule) (X : Blocks) where
   -- the right neighbours hold nothing
@@ -73,11 +74,7 @@ module _ (k : ℕ) (right : Rule) (X : Blocks) (p : ℕ) (pk : p < k)
 module _ (k p q : ℕ) where
   light_at : (v i : ℕ) → i ≢ p → i ≢ q → light p q v i ≡ not (dark v i)
   unfolding light
-  light_at v i n m = ap₂ (λ s t. not (dark v i) && not s && not t) (sym (ne_false i p n)) (sym (ne_false i q m)) ∙ and_true (not (dark v i))
-    where
-      and_true : (b : Bool) → b && true && true ≡ b
-      and_true true = refl
-      and_true false = refl
+  light_at v i n m = ap₂ (λ s t. not (dark v i) && not s && not t) (sym (ne_false i p n)) (sym (ne_false i q m)) ∙ and-true (not (dark v i) && true) ∙ and-true (not (dark v i))
 
   light_same : (u v i : ℕ) → (i ≢ p → i ≢ q → dark u i ≡ dark v i) → light p q u i ≡ light p q v i
   unfolding light
@@ -110,11 +107,7 @@ module _ (k p q : ℕ) where
   -- the rank by fewer white places, and by the place at q
   pub rank_whites : (u v : ℕ) → whites k p q u < whites k p q v → rank k p q u < rank k p q v
   unfolding rank
-  rank_whites u v l = omega (arith, at_most (dark u q))
-    where
-      at_most : (b : Bool) → cond {A = ℕ} b 1 0 ≤ 1
-      at_most true = omega arith
-      at_most false = omega arith
+  rank_whites u v l = omega (arith, one_at_most (dark u q))
 
   rank_across : (v : ℕ) → p ≢ q → dark (meets (meets v p) q) q ≡ false → rank k p q (meets (meets v p) q) < rank k p q v
   unfolding rank

@@ -84,7 +84,7 @@ pub struct Sum {
 impl fmt::Display for Sum {
     fn fmt<W: fmt::Write>(&self, f: &mut fmt::Formatter<W>) -> fmt::Result {
         write!(f, "{:>4}:", self.line.0)?;
-        for (row, column) in self.places.iter() {
+        for (row, column) in &self.places {
             write!(f, " ({row},{column})")?;
         }
         Ok(())
