@@ -27,14 +27,9 @@ fn stock(heap: Global, shape: Shape) -> Result<Vec<Drawer>, AllocError>
 
 impl Cabinet {
     // A cabinet of any shape, its blocks all zeros, or an error where there is no memory for it.
-    pub fn new(heap: Global, columns: u32, rows: u32, size: u32) -> Result<Cabinet, AllocError>
-        ensures { IfOk result (λ t. cabinet_of t ≡ blank columns rows size) }
+    pub fn new(heap: Global, shape: Shape) -> Result<Cabinet, AllocError>
+        ensures { IfOk result (λ t. cabinet_of t ≡ blank shape.columns shape.rows shape.size) }
     {
-        let shape = Shape {
-            columns,
-            rows,
-            size,
-        };
         let drawers = stock(heap, shape)?;
         Ok(Cabinet { shape, drawers })
     }

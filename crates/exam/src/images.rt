@@ -8,7 +8,7 @@ mod tests {
     use std::test::Fail;
     use tray::fault::Fault;
     use tray::flat::Flat;
-    use tray::trays::Tray;
+    use tray::trays::{Shape, Tray};
 
     const WIDTH_3: [u8; 40] = [
         0xca, 0x88, 0x64, 0xbd, 0xc8, 0x7a, 0x66, 0xcb, 0xea, 0x68, 0x44, 0xdd, 0xe8, 0x5a, 0x46,
@@ -74,13 +74,17 @@ mod tests {
     fn a_shelf_of_width_3_is_written_and_read(rt: HostRuntime) -> Result<(), Fail> {
         let mut work = [0u8; 16];
         let mut memory = [0u8; 40];
-        let mut roster = written(&mut Flat::new(5, 4, 2, &mut memory), 3, &mut work)?;
+        let mut roster = written(
+            &mut Flat::new(Shape::new(5, 4, 2), &mut memory),
+            3,
+            &mut work,
+        )?;
         assert_eq!(rt; memory, WIDTH_3);
         let mut stored = WIDTH_3;
         assert!(rt;
             is_read(
                 &mut roster,
-                &mut Flat::new(5, 4, 2, &mut stored),
+                &mut Flat::new(Shape::new(5, 4, 2), &mut stored),
                 3,
                 &mut work,
             )?
@@ -92,13 +96,17 @@ mod tests {
     fn a_shelf_of_width_5_is_written_and_read(rt: HostRuntime) -> Result<(), Fail> {
         let mut work = [0u8; 64];
         let mut memory = [0u8; 224];
-        let mut roster = written(&mut Flat::new(7, 16, 2, &mut memory), 5, &mut work)?;
+        let mut roster = written(
+            &mut Flat::new(Shape::new(7, 16, 2), &mut memory),
+            5,
+            &mut work,
+        )?;
         assert_eq!(rt; memory, WIDTH_5);
         let mut stored = WIDTH_5;
         assert!(rt;
             is_read(
                 &mut roster,
-                &mut Flat::new(7, 16, 2, &mut stored),
+                &mut Flat::new(Shape::new(7, 16, 2), &mut stored),
                 5,
                 &mut work,
             )?

@@ -5,11 +5,15 @@ mod tests {
     use std::test::Fail;
     use tray::fault::{Fault, Refusal};
     use tray::flat::Flat;
-    use tray::trays::Tray;
+    use tray::trays::{Shape, Tray};
 
     // The number of the refusal that a layout gets on a tray of its own shape, or 0.
     fn refused(k: u32, size: u32, columns: u32, rows: u32, memory: &mut [u8]) -> u8 {
-        match Roster::layout(&mut Flat::new(columns, rows, size, memory), k, size) {
+        match Roster::layout(
+            &mut Flat::new(Shape::new(columns, rows, size), memory),
+            k,
+            size,
+        ) {
             Ok(_) => 0,
             Err(fault) => fault.refusal.number(),
         }
@@ -58,7 +62,7 @@ mod tests {
     fn the_worked_stripe_has_its_parities(rt: HostRuntime) -> Result<(), Fail> {
         let mut memory = [0u8; 20];
         let mut work = [0u8; 8];
-        let mut tray = Flat::new(5, 4, 1, &mut memory);
+        let mut tray = Flat::new(Shape::new(5, 4, 1), &mut memory);
         let roster = Roster::layout(&mut tray, 3, 1)?;
         put_stripe(&roster, &mut tray, &mut work)?;
         for (column, blocks) in (3u32..).zip(PARITIES) {
@@ -73,7 +77,7 @@ mod tests {
     fn a_sweep_finds_the_first_place_that_does_not_fit(rt: HostRuntime) -> Result<(), Fail> {
         let mut memory = [0u8; 20];
         let mut work = [0u8; 8];
-        let mut tray = Flat::new(5, 4, 1, &mut memory);
+        let mut tray = Flat::new(Shape::new(5, 4, 1), &mut memory);
         let roster = Roster::layout(&mut tray, 3, 1)?;
         put_stripe(&roster, &mut tray, &mut work)?;
         tray.write(4, 2, &[0xff])?;

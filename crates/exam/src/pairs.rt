@@ -9,7 +9,7 @@ mod tests {
     use tray::fault::Fault;
     use tray::flat::Flat;
     use tray::split::Split;
-    use tray::trays::Tray;
+    use tray::trays::{Shape, Tray};
 
     // Puts, loses two columns, reads and puts on, rebuilds them, and sweeps.
     fn round_trip<T: Tray>(
@@ -48,8 +48,20 @@ mod tests {
     fn every_pair_comes_back_on_a_flat_tray(rt: HostRuntime) -> Result<(), Fail> {
         let mut work = [0u8; 64];
         let mut memory = [0u8; 224];
-        assert!(rt; all_pairs(&mut Flat::new(5, 4, 2, &mut memory), 3, &mut work)?);
-        assert!(rt; all_pairs(&mut Flat::new(7, 16, 2, &mut memory), 5, &mut work)?);
+        assert!(rt;
+            all_pairs(
+                &mut Flat::new(Shape::new(5, 4, 2), &mut memory),
+                3,
+                &mut work
+            )?
+        );
+        assert!(rt;
+            all_pairs(
+                &mut Flat::new(Shape::new(7, 16, 2), &mut memory),
+                5,
+                &mut work
+            )?
+        );
         Ok(())
     }
 
@@ -61,14 +73,14 @@ mod tests {
         assert!(rt;
             all_pairs(
                 &mut Split::new(
-                    Flat::new(3, 16, 2, &mut left),
-                    Flat::new(4, 16, 2, &mut right),
+                    Flat::new(Shape::new(3, 16, 2), &mut left),
+                    Flat::new(Shape::new(4, 16, 2), &mut right),
                 ),
                 5,
                 &mut work,
             )?
         );
-        let mut cabinet = Cabinet::new(rt.alloc(), 5, 4, 2)?;
+        let mut cabinet = Cabinet::new(rt.alloc(), Shape::new(5, 4, 2))?;
         assert!(rt; all_pairs(&mut cabinet, 3, &mut work)?);
         Ok(())
     }

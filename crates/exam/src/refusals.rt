@@ -5,6 +5,7 @@ mod tests {
     use std::test::Fail;
     use tray::fault::{Fault, Refusal};
     use tray::flat::Flat;
+    use tray::trays::Shape;
 
     fn told(refusal: Refusal, column: u32) -> Fault {
         Fault::shelf(refusal, Some(column), None)
@@ -17,7 +18,7 @@ mod tests {
     #[test]
     fn pulls_and_drills(rt: HostRuntime) -> Result<(), Fail> {
         let mut memory = [0u8; 20];
-        let mut roster = Roster::layout(&mut Flat::new(5, 4, 1, &mut memory), 3, 1)?;
+        let mut roster = Roster::layout(&mut Flat::new(Shape::new(5, 4, 1), &mut memory), 3, 1)?;
         assert_eq!(rt; roster.pull(5), Err(told(Refusal::ColumnTooHigh, 5)));
         roster.pull(1)?;
         assert_eq!(rt; roster.pull(1), Err(told(Refusal::AlreadyOut, 1)));
@@ -38,10 +39,10 @@ mod tests {
         let mut memory = [0u8; 40];
         let mut other = [0u8; 20];
         let mut work = [0u8; 16];
-        let mut tray = Flat::new(5, 4, 2, &mut memory);
+        let mut tray = Flat::new(Shape::new(5, 4, 2), &mut memory);
         let mut block = [7u8; 2];
         let roster = Roster::layout(&mut tray, 3, 2)?;
-        let mut wrong = Flat::new(5, 4, 1, &mut other);
+        let mut wrong = Flat::new(Shape::new(5, 4, 1), &mut other);
         assert_eq!(rt;
             roster.get(&mut wrong, 9, 9, &mut block, &mut work),
             Err(told_place(Refusal::ShapeDiffers, 9, 9))
@@ -66,7 +67,7 @@ mod tests {
     fn puts(rt: HostRuntime) -> Result<(), Fail> {
         let mut memory = [0u8; 40];
         let mut work = [0u8; 16];
-        let mut tray = Flat::new(5, 4, 2, &mut memory);
+        let mut tray = Flat::new(Shape::new(5, 4, 2), &mut memory);
         let roster = Roster::layout(&mut tray, 3, 2)?;
         assert_eq!(rt;
             roster.put(&mut tray, 2, 3, &[1, 2], &mut [0; 15]),
@@ -89,9 +90,9 @@ mod tests {
         let mut memory = [0u8; 20];
         let mut other = [0u8; 40];
         let mut work = [0u8; 8];
-        let mut tray = Flat::new(5, 4, 1, &mut memory);
+        let mut tray = Flat::new(Shape::new(5, 4, 1), &mut memory);
         let mut roster = Roster::layout(&mut tray, 3, 1)?;
-        let mut wrong = Flat::new(5, 4, 2, &mut other);
+        let mut wrong = Flat::new(Shape::new(5, 4, 2), &mut other);
         assert_eq!(rt;
             roster.rebuild(&mut wrong, 5, &mut work),
             Err(told(Refusal::ShapeDiffers, 5))

@@ -10,6 +10,7 @@ use code::widths::{is_width, rows_of};
 use script::reader::read_first;
 use shelf::roster::Roster;
 use tray::fault::Fault;
+use tray::trays::Shape;
 
 impl Lab<'_> {
     // Lays a shelf out, on a tray that is made anew over the memory.
@@ -18,7 +19,7 @@ impl Lab<'_> {
         ensures { LaysOut self.old.tray.cells.now width size result (standing self.new) }
     {
         if is_width(width) {
-            self.tray.renew(width + 2, rows_of(width), size);
+            self.tray.renew(Shape::new(width + 2, rows_of(width), size));
         }
         let roster = Roster::layout(&mut self.tray, width, size)?;
         self.roster = Some(roster);

@@ -5,6 +5,7 @@ ghost use Rattle.lab.specs.Courses.{LawOfScripts};
 
 use shelf::roster::Roster;
 use tray::flat::Flat;
+use tray::trays::Shape;
 
 // Both are open, so that calls of one's own can be made between the commands. As long as there is no roster only the
 // tray's memory counts.
@@ -20,7 +21,7 @@ impl<'a> Lab<'a> {
         ensures value { standing result ≡ bare memory.old }
         ensures law { LawOfScripts }
     {
-        let tray = Flat::new(0, 0, 0, memory);
+        let tray = Flat::new(Shape::EMPTY, memory);
         Lab { roster: None, tray }
     }
 }

@@ -5,7 +5,7 @@ mod tests {
     use lab::shelf_lab::Lab;
     use std::test::Fail;
     use tray::fault::{Fault, Refusal};
-    use tray::trays::Tray;
+    use tray::trays::{Shape, Tray};
 
     #[test]
     fn short_line(rt: HostRuntime) -> Result<(), Fail> {
@@ -35,7 +35,7 @@ mod tests {
         lab.tray.write(3, 1, &[1])?;
         let step = lab.run(step.rest, b"", &mut work, &mut line)?;
         assert!(rt; line.starts_with(b"S 3 1\n") && step.len == 6);
-        lab.tray.renew(5, 4, 2);
+        lab.tray.renew(Shape::new(5, 4, 2));
         let step = lab.run(step.rest, b"", &mut work, &mut line)?;
         assert!(rt; line.starts_with(b"G no 11 shelf 0 0\n") && step.len == 18);
         assert!(rt; step.rest.is_empty());

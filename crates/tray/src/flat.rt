@@ -41,33 +41,25 @@ fn has_room(shape: Shape, len: usize) -> bool
 impl<'a> Flat<'a> {
     // A tray over `cells`, whose bytes are its blocks: every column answers, and none was read. It
     // is empty where its shape is beyond the limits or the memory is too little.
-    pub fn new(columns: u32, rows: u32, size: u32, cells: &'a mut [u8]) -> Flat<'a>
-        ensures value { flat_of result ≡ new_flat columns rows size cells.old }
+    pub fn new(shape: Shape, cells: &'a mut [u8]) -> Flat<'a>
+        ensures value { flat_of result ≡ new_flat shape.columns shape.rows shape.size cells.old }
         ensures cells { result.cells.now ≡ cells.old }
         ensures lender { result.cells.ghost_name ≡ cells.entry.ghost_name }
     {
-        let shape = Shape {
-            columns,
-            rows,
-            size,
-        };
-        let table = Table::NEW;
         Flat {
             shape,
-            table,
+            table: Table::NEW,
             cells,
         }
     }
 
     // Makes the tray anew over its memory, in another shape: every column answers, and none was read.
-    pub fn renew(&mut self, columns: u32, rows: u32, size: u32)
-        ensures after { flat_of self.new ≡ new_flat columns rows size self.old.cells.now }
+    pub fn renew(&mut self, shape: Shape)
+        ensures after { flat_of self.new ≡ new_flat shape.columns shape.rows shape.size self.old.cells.now }
         ensures cells { self.new.cells.now ≡ self.old.cells.now }
         ensures lender { self.new.cells.ghost_name ≡ self.old.cells.ghost_name }
     {
-        self.shape.columns = columns;
-        self.shape.rows = rows;
-        self.shape.size = size;
+        self.shape = shape;
         self.table = Table::NEW;
     }
 

@@ -21,6 +21,18 @@ impl Shape {
         size: 0,
     };
 
+    pub const fn new(columns: u32, rows: u32, size: u32) -> Shape
+        ensures columns { result.columns ≡ columns }
+        ensures rows { result.rows ≡ rows }
+        ensures size { result.size ≡ size }
+    {
+        Shape {
+            columns,
+            rows,
+            size,
+        }
+    }
+
     // The check of a question: is there such a column?
     pub fn check_column(self, column: u32) -> Result<(), Fault>
         ensures value { result ≡ asked (all_answer self) column tt }

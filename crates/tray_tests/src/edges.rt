@@ -98,7 +98,7 @@ mod tests {
         ];
         for (columns, rows, size, len, fits) in cases {
             assert!(rt; len <= memory.len());
-            let tray = Flat::new(columns, rows, size, &mut memory[0..len]);
+            let tray = Flat::new(Shape::new(columns, rows, size), &mut memory[0..len]);
             let expected = if fits {
                 Shape {
                     columns,
@@ -117,7 +117,7 @@ mod tests {
     #[test]
     fn refusals(rt: HostRuntime) -> Result<(), Fail> {
         let mut memory = [7u8; 24];
-        let mut tray = Flat::new(3, 4, 2, &mut memory);
+        let mut tray = Flat::new(Shape::new(3, 4, 2), &mut memory);
         tray.switch(1, false)?;
         let cases = [
             (
@@ -148,7 +148,7 @@ mod tests {
     fn reads_and_writes(rt: HostRuntime) -> Result<(), Fail> {
         let mut memory = [0u8; 6];
         {
-            let mut tray = Flat::new(2, 3, 1, &mut memory);
+            let mut tray = Flat::new(Shape::new(2, 3, 1), &mut memory);
             tray.write(1, 2, &[5])?;
             for _ in 0..3 {
                 assert_eq!(rt; byte_at(&mut tray, 1, 2), Ok(5));
@@ -175,10 +175,10 @@ mod tests {
     fn split_of_a_split(rt: HostRuntime) -> Result<(), Fail> {
         let mut first = [0u8; 8];
         let mut last = [0u8; 8];
-        let mut left = Flat::new(2, 4, 1, &mut first);
+        let mut left = Flat::new(Shape::new(2, 4, 1), &mut first);
         left.switch(1, false)?;
-        let middle = Cabinet::new(rt.alloc(), 1, 4, 1)?;
-        let mut right = Flat::new(2, 4, 1, &mut last);
+        let middle = Cabinet::new(rt.alloc(), Shape::new(1, 4, 1))?;
+        let mut right = Flat::new(Shape::new(2, 4, 1), &mut last);
         right.switch(1, false)?;
         let mut tray = Split::new(Split::new(left, middle), right);
         assert_eq!(rt; tray.shape().columns, 5);
@@ -202,8 +202,8 @@ mod tests {
 
     #[test]
     fn faults_of_a_split(rt: HostRuntime) -> Result<(), Fail> {
-        let left = Cabinet::new(rt.alloc(), 2, 4, 1)?;
-        let right = Cabinet::new(rt.alloc(), 3, 4, 1)?;
+        let left = Cabinet::new(rt.alloc(), Shape::new(2, 4, 1))?;
+        let right = Cabinet::new(rt.alloc(), Shape::new(3, 4, 1))?;
         let mut tray = Split::new(left, right);
         let cases = [
             (
@@ -243,8 +243,8 @@ mod tests {
             (0, 0, 0, 0, 0, 0, 0),
         ];
         for (columns, rows, size, others, their_rows, their_size, all) in cases {
-            let left = Cabinet::new(rt.alloc(), columns, rows, size)?;
-            let right = Cabinet::new(rt.alloc(), others, their_rows, their_size)?;
+            let left = Cabinet::new(rt.alloc(), Shape::new(columns, rows, size))?;
+            let right = Cabinet::new(rt.alloc(), Shape::new(others, their_rows, their_size))?;
             let shape = Split::new(left, right).shape();
             let expected = if all == 0 {
                 Shape::EMPTY
@@ -263,9 +263,9 @@ mod tests {
     #[test]
     fn lent_and_kept(rt: HostRuntime) -> Result<(), Fail> {
         let mut memory = [0u8; 6];
-        let mut kept = Flat::new(2, 3, 1, &mut memory);
+        let mut kept = Flat::new(Shape::new(2, 3, 1), &mut memory);
         {
-            let other = Cabinet::new(rt.alloc(), 1, 3, 1)?;
+            let other = Cabinet::new(rt.alloc(), Shape::new(1, 3, 1))?;
             let mut tray = Split::new(other, Lent::new(&mut kept));
             tray.write(2, 1, &[6])?;
             assert_eq!(rt; byte_at(&mut tray, 2, 1), Ok(6));

@@ -20,7 +20,7 @@ pub fn stamp(
     ensures value { result ≡ verdict (new_flat shape.columns shape.rows shape.size cells.old) column row (length block.now) }
     ensures cells { cells.new ≡ if_ok result (written (new_flat shape.columns shape.rows shape.size cells.old) column row block.now cells.old) cells.old }
 {
-    let mut tray = Flat::new(shape.columns, shape.rows, shape.size, cells);
+    let mut tray = Flat::new(shape, cells);
     tray.write(column, row, block)
 }
 
@@ -34,7 +34,7 @@ pub fn peek(
 ) -> Result<(), Fault>
     ensures { cells.new ≡ cells.old }
 {
-    let mut tray = Flat::new(shape.columns, shape.rows, shape.size, cells);
+    let mut tray = Flat::new(shape, cells);
     tray.switch(column, true)?;
     tray.read(column, row, block)
 }
