@@ -4,25 +4,25 @@ ghost use Rattle.std.specs.Prelude.{◌≡◌};
 ghost use Rattle.tray.specs.Refusals.{number_of, tray_fault, shelf_fault, script_fault, silent_fault, fault_at};
 
 // Why a call is refused. The first nine are about what was sent, the others about how things stand.
-// `number` gives each its number; docs/REFUSALS.md says what to do about it.
+// Each has a number; docs/REFUSALS.md says what to do about it.
 #[derive(Clone, Copy, PartialEq, Eq, Debug)]
 pub enum Refusal {
-    ColumnTooHigh,
-    RowTooHigh,
-    WrongBuffer,
-    ShortWork,
-    OutsideLimits,
-    UnknownCommand,
-    ScriptEnds,
-    NoSuchEntry,
-    ShortLine,
-    ShapeDiffers,
-    AlreadyOut,
-    NotOut,
-    TwoOut,
-    Silent,
-    ColumnOut,
-    OutOfOrder,
+    ColumnTooHigh = 1,
+    RowTooHigh = 2,
+    WrongBuffer = 3,
+    ShortWork = 4,
+    OutsideLimits = 5,
+    UnknownCommand = 6,
+    ScriptEnds = 7,
+    NoSuchEntry = 8,
+    ShortLine = 9,
+    ShapeDiffers = 11,
+    AlreadyOut = 12,
+    NotOut = 13,
+    TwoOut = 14,
+    Silent = 15,
+    ColumnOut = 16,
+    OutOfOrder = 17,
 }
 
 impl Refusal {
@@ -30,24 +30,7 @@ impl Refusal {
     pub fn number(self) -> u8
         ensures { result ≡ number_of self }
     {
-        match self {
-            Refusal::ColumnTooHigh => 1,
-            Refusal::RowTooHigh => 2,
-            Refusal::WrongBuffer => 3,
-            Refusal::ShortWork => 4,
-            Refusal::OutsideLimits => 5,
-            Refusal::UnknownCommand => 6,
-            Refusal::ScriptEnds => 7,
-            Refusal::NoSuchEntry => 8,
-            Refusal::ShortLine => 9,
-            Refusal::ShapeDiffers => 11,
-            Refusal::AlreadyOut => 12,
-            Refusal::NotOut => 13,
-            Refusal::TwoOut => 14,
-            Refusal::Silent => 15,
-            Refusal::ColumnOut => 16,
-            Refusal::OutOfOrder => 17,
-        }
+        self as u8
     }
 }
 
@@ -70,40 +53,36 @@ pub struct Fault {
 }
 
 impl Fault {
+    fn told_by(layer: Layer, refusal: Refusal, column: Option<u32>, row: Option<u32>) -> Fault
+        ensures { result ≡ record { refusal = refusal; layer = layer; column = column; row = row } }
+    {
+        Fault {
+            refusal,
+            layer,
+            column,
+            row,
+        }
+    }
+
     // A fault of a tray's own.
     pub fn tray(refusal: Refusal, column: Option<u32>, row: Option<u32>) -> Fault
         ensures { result ≡ tray_fault refusal column row }
     {
-        Fault {
-            refusal,
-            layer: Layer::Tray,
-            column,
-            row,
-        }
+        Fault::told_by(Layer::Tray, refusal, column, row)
     }
 
     // A fault of a shelf's own.
     pub fn shelf(refusal: Refusal, column: Option<u32>, row: Option<u32>) -> Fault
         ensures { result ≡ shelf_fault refusal column row }
     {
-        Fault {
-            refusal,
-            layer: Layer::Shelf,
-            column,
-            row,
-        }
+        Fault::told_by(Layer::Shelf, refusal, column, row)
     }
 
     // A fault of a script's own: it has neither column nor row.
     pub fn script(refusal: Refusal) -> Fault
         ensures { result ≡ script_fault refusal }
     {
-        Fault {
-            refusal,
-            layer: Layer::Script,
-            column: None,
-            row: None,
-        }
+        Fault::told_by(Layer::Script, refusal, None, None)
     }
 
     // A column does not answer: always the tray's fault, told with that column alone.
