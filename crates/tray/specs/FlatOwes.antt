@@ -4,10 +4,10 @@ use Rattle.std.proofs.Common.{mul-le-mul_right, add-mul, arith, length-take, len
 use Rattle.std.proofs.lemmas.Nat.{mul-add-lt}
 use Rattle.std.proofs.lemmas.Bool.{leb-true, lt-ltb, cond_both, and_parts}
 use Rattle.tray.specs.declared.flat.Flat.{Flat}
-use Rattle.tray.specs.Limits.{flat_columns, flat_rows, flat_size}
-use Rattle.tray.specs.Meaning.{Sized, Wraps, empty}
+use Rattle.tray.specs.Limits.{flat_columns, flat_rows, flat_size, has_room}
+use Rattle.tray.specs.Meaning.{Sized, Wraps}
 use Rattle.tray.specs.FlatColumns.{absent}
-use Rattle.tray.specs.FlatTrays.{has_room, roomy, flat_of}
+use Rattle.tray.specs.FlatTrays.{flat_of}
 
 -- The block of a place lies within the memory.
 pub place_within : (columns rows size c r n : ℕ) → c < columns → r < rows → columns * rows * size ≤ n → (c * rows + r) * size + size ≤ n
@@ -24,18 +24,11 @@ room_parts c r s n e =
     (leb-true c flat_columns p.0, leb-true r flat_rows q.0, leb-true s flat_size o.0, leb-true (c * r * s) n o.1)
 
 pub flat_sized : (t : Flat) → Sized (flat_of t)
-flat_sized t =
+flat_sized t c r hc hr =
     let s = t.shape in
-    cond_both _ (roomy s.columns s.rows s.size t.table.columns t.cells.now) empty Sized
-    (λ e c r hc hr.
-    let room = room_parts s.columns s.rows s.size (length t.cells.now) e in
+    let room = room_parts s.columns s.rows s.size (length t.cells.now) t.room in
     let within = place_within s.columns s.rows s.size c r (length t.cells.now) hc hr room.3 in
-    simp (lt-ltb c s.columns hc, lt-ltb r s.rows hr, length-take, length-drop) (omega arith))
-    (λ _ c r hc hr. absurd (omega arith))
+    simp (lt-ltb c s.columns hc, lt-ltb r s.rows hr, length-take, length-drop) (omega arith)
 
 pub flat_wraps : (t : Flat) → Wraps (flat_of t)
-flat_wraps t =
-    let s = t.shape in
-    cond_both _ (roomy s.columns s.rows s.size t.table.columns t.cells.now) empty Wraps
-    (λ _ c. cond_both (nat_lt c s.columns) ((slice_index_or t.table.columns c absent).reads % 2 ^ 32) 0 (λ n. n < 2 ^ 32) (λ _. omega arith) (λ _. omega arith))
-    (λ _ c. omega arith)
+flat_wraps t c = cond_both (nat_lt c t.shape.columns) ((slice_index_or t.table c absent).reads % 2 ^ 32) 0 (λ n. n < 2 ^ 32) (λ _. omega arith) (λ _. omega arith)

@@ -1,11 +1,11 @@
 -- What a flat tray means: a memory that holds its blocks column after column, row after row within
 -- a column, beside a table with one record for each column.
-use Rattle.std.specs.Prelude.{ℕ, ◌+◌, ◌*◌, ◌%◌, ◌^◌, Bool, cond, ◌&&◌, List, [], length, take, drop, nat_le, nat_lt, slice_index_or}
+use Rattle.std.specs.Prelude.{ℕ, ◌+◌, ◌*◌, ◌%◌, ◌^◌, cond, ◌&&◌, List, [], length, take, drop, nat_lt, slice_index_or}
 use Rattle.std.proofs.Math.Seq.{paste}
 use Rattle.tray.specs.declared.flat.Flat.{Flat}
 use Rattle.tray.specs.declared.flat.columns.Column.{Column}
 use Rattle.tray.specs.FlatColumns.{absent}
-use Rattle.tray.specs.Limits.{flat_columns, flat_rows, flat_size}
+use Rattle.tray.specs.Limits.{has_room}
 use Rattle.tray.specs.Meaning.{Meaning, empty}
 
 -- Where in the memory the block of column c and row r starts.
@@ -16,13 +16,9 @@ start_of rows size c r = (c * rows + r) * size
 abbrev pub blocks_in : ℕ → ℕ → ℕ → List ℕ → ℕ → ℕ → List ℕ
 blocks_in columns rows size cells c r = cond (nat_lt c columns && nat_lt r rows) (take size (drop (start_of rows size c r) cells)) []
 
--- Whether a shape is within the limits, and a memory of n bytes has room for it.
-abbrev pub has_room : ℕ → ℕ → ℕ → ℕ → Bool
-has_room columns rows size n = nat_le columns flat_columns && (nat_le rows flat_rows && (nat_le size flat_size && nat_le (columns * rows * size) n))
-
--- A flat tray that has room, by its shape, table and memory.
-abbrev pub roomy : ℕ → ℕ → ℕ → List Column → List ℕ → Meaning
-roomy columns rows size table cells = record {
+-- A flat tray by its shape, table and memory.
+abbrev pub flat_meaning : ℕ → ℕ → ℕ → List Column → List ℕ → Meaning
+flat_meaning columns rows size table cells = record {
   columns = columns;
   rows = rows;
   size = size;
@@ -31,12 +27,8 @@ roomy columns rows size table cells = record {
   tally = λ c. cond (nat_lt c columns) ((slice_index_or table c absent).reads % 2 ^ 32) 0;
 }
 
--- A flat tray; it is empty where there is no room.
-abbrev pub flat_meaning : ℕ → ℕ → ℕ → List Column → List ℕ → Meaning
-flat_meaning columns rows size table cells = cond (has_room columns rows size (length cells)) (roomy columns rows size table cells) empty
-
 abbrev pub flat_of : Flat → Meaning
-flat_of t = flat_meaning t.shape.columns t.shape.rows t.shape.size t.table.columns t.cells.now
+flat_of t = flat_meaning t.shape.columns t.shape.rows t.shape.size t.table t.cells.now
 
 -- A new flat tray that has room: all its columns answer, none was read, and the bytes of the memory
 -- are its blocks.
@@ -50,6 +42,7 @@ fresh columns rows size cells = record {
   tally = λ _. 0;
 }
 
+-- It is empty where there is no room.
 abbrev pub new_flat : ℕ → ℕ → ℕ → List ℕ → Meaning
 new_flat columns rows size cells = cond (has_room columns rows size (length cells)) (fresh columns rows size cells) empty
 

@@ -1,15 +1,14 @@
 // The flat tray: blocks in a caller's memory, column after column and row after row within a column.
-ghost use Rattle.std.specs.Prelude.{◌≡◌, ◌+◌, ◌<◌, ◌≤◌, length, OnOk};
+ghost use Rattle.std.specs.Prelude.{◌≡◌, ◌+◌, ◌<◌, ◌≤◌, true, cond, length, OnOk};
+ghost use Rattle.tray.specs.Limits.{has_room};
 ghost use Rattle.tray.specs.Meaning.{Ready, verdict, asked, tallied, stored, switched, if_ok};
-ghost use Rattle.tray.specs.FlatTrays.{has_room, start_of, written, flat_of, new_flat};
-ghost use Rattle.tray.specs.FlatOwes.{flat_sized, flat_wraps};
 
 use crate::fault::Fault;
 use crate::trays::{Shape, Tray};
 
 mod columns;
 
-use columns::Table;
+use columns::Column;
 
 // The limits of a flat tray.
 pub const MAX_COLUMNS: u32 = 13;
@@ -18,37 +17,42 @@ pub const MAX_ROWS: u32 = 1024;
 
 pub const MAX_SIZE: u32 = 512;
 
-// The shape that was asked for, the record of each column, and the memory. The shape counts only
-// within the limits and where the memory has room for it; otherwise the tray is empty.
+// The shape, the record of each column, and the memory, which has room for all blocks of the shape.
 #[derive(Drop)]
 pub struct Flat<'a> {
     shape: Shape,
-    table: Table,
+    table: [Column; MAX_COLUMNS as usize],
     cells: &'a mut [u8],
+    ghost room: { has_room shape.columns shape.rows shape.size (length cells.now) ≡ true },
 }
 
-// Whether a shape is within the limits and `len` bytes have room for it.
-fn has_room(shape: Shape, len: usize) -> bool
-    ensures { result ≡ has_room shape.columns shape.rows shape.size len }
-{
-    if shape.columns > MAX_COLUMNS || shape.rows > MAX_ROWS || shape.size > MAX_SIZE {
-        return false;
+impl Shape {
+    // This shape where it is within the limits and `len` bytes have room for it, and else the empty one.
+    fn fitting(self, len: usize) -> Shape
+        ensures value { result ≡ cond (has_room self.columns self.rows self.size len) self Shape.EMPTY }
+        ensures room { has_room result.columns result.rows result.size len ≡ true }
+    {
+        let fits = self.columns <= MAX_COLUMNS
+            && self.rows <= MAX_ROWS
+            && self.size <= MAX_SIZE
+            && self.columns as usize * self.rows as usize * self.size as usize <= len;
+        if fits { self } else { Shape::EMPTY }
     }
-    let bytes = shape.columns as usize * shape.rows as usize * shape.size as usize;
-    bytes <= len
 }
 
 impl<'a> Flat<'a> {
+    ghost use Rattle.tray.specs.FlatTrays.{start_of, written, flat_of, new_flat};
+
     // A tray over `cells`, whose bytes are its blocks: every column answers, and none was read. It
-    // is empty where its shape is beyond the limits or the memory is too little.
+    // is empty where the shape is beyond the limits or the memory is too little.
     pub fn new(shape: Shape, cells: &'a mut [u8]) -> Flat<'a>
         ensures value { flat_of result ≡ new_flat shape.columns shape.rows shape.size cells.old }
         ensures cells { result.cells.now ≡ cells.old }
         ensures lender { result.cells.ghost_name ≡ cells.entry.ghost_name }
     {
         Flat {
-            shape,
-            table: Table::NEW,
+            shape: shape.fitting(cells.len()),
+            table: [Column::NEW; MAX_COLUMNS as usize],
             cells,
         }
     }
@@ -59,8 +63,8 @@ impl<'a> Flat<'a> {
         ensures cells { self.new.cells.now ≡ self.old.cells.now }
         ensures lender { self.new.cells.ghost_name ≡ self.old.cells.ghost_name }
     {
-        self.shape = shape;
-        self.table = Table::NEW;
+        self.shape = shape.fitting(self.cells.len());
+        self.table = [Column::NEW; MAX_COLUMNS as usize];
     }
 
     // Sets whether a column answers. Only the column is checked.
@@ -70,8 +74,8 @@ impl<'a> Flat<'a> {
         ensures cells { self.new.cells.now ≡ self.old.cells.now }
         ensures lender { self.new.cells.ghost_name ≡ self.old.cells.ghost_name }
     {
-        self.shape().check_column(column)?;
-        self.turn(column, on);
+        self.shape.check_column(column)?;
+        self.table[column as usize].switch(on);
         Ok(())
     }
 
@@ -80,8 +84,8 @@ impl<'a> Flat<'a> {
         ensures value { result ≡ verdict (flat_of self.now) column row len }
         ensures ready { OnOk result (Ready (flat_of self.now) column row len) }
     {
-        self.shape().check_place(column, row, len)?;
-        if !self.table.answers(column) {
+        self.shape.check_place(column, row, len)?;
+        if !self.table[column as usize].answers() {
             return Err(Fault::silent(column));
         }
         Ok(())
@@ -89,7 +93,8 @@ impl<'a> Flat<'a> {
 
     // Where the block of a place starts.
     fn start(&self, column: u32, row: u32) -> usize
-        requires { (column < (flat_of self.now).columns) × (row < (flat_of self.now).rows) }
+        requires column { column < (flat_of self.now).columns }
+        requires row { row < (flat_of self.now).rows }
         ensures value { result ≡ start_of (flat_of self.now).rows (flat_of self.now).size column row }
         ensures bound { result + (flat_of self.now).size ≤ length self.now.cells.now }
     {
@@ -117,31 +122,14 @@ impl<'a> Flat<'a> {
         let end = at + block.len();
         self.cells[at..end].copy_from_slice(block);
     }
-
-    // Counts a read in a column's record.
-    fn count(&mut self, column: u32)
-        requires { column < (flat_of self.old).columns }
-        ensures after { flat_of self.new ≡ tallied (flat_of self.old) column }
-        ensures cells { self.new.cells.now ≡ self.old.cells.now }
-        ensures lender { self.new.cells.ghost_name ≡ self.old.cells.ghost_name }
-    {
-        self.table.count(column);
-    }
-
-    // Sets the flag in a column's record.
-    fn turn(&mut self, column: u32, on: bool)
-        requires { column < (flat_of self.old).columns }
-        ensures after { flat_of self.new ≡ switched (flat_of self.old) column on }
-        ensures cells { self.new.cells.now ≡ self.old.cells.now }
-        ensures lender { self.new.cells.ghost_name ≡ self.old.cells.ghost_name }
-    {
-        self.table.switch(column, on);
-    }
 }
 
 // Each method has the trait's own clauses, and says besides what the memory holds and that it stays
 // the caller's, so that the caller knows its bytes once the tray has ended.
 impl<'a> Tray for Flat<'a> {
+    ghost use Rattle.tray.specs.FlatTrays.{written, flat_of};
+    ghost use Rattle.tray.specs.FlatOwes.{flat_sized, flat_wraps};
+
     ghost meaning = { flat_of };
 
     ghost sized = { flat_sized };
@@ -149,21 +137,17 @@ impl<'a> Tray for Flat<'a> {
     ghost wraps = { flat_wraps };
 
     fn shape(&self) -> Shape {
-        if has_room(self.shape, self.cells.len()) {
-            self.shape
-        } else {
-            Shape::EMPTY
-        }
+        self.shape
     }
 
     fn answers(&self, column: u32) -> Result<bool, Fault> {
-        self.shape().check_column(column)?;
-        Ok(self.table.answers(column))
+        self.shape.check_column(column)?;
+        Ok(self.table[column as usize].answers())
     }
 
     fn tally(&self, column: u32) -> Result<u32, Fault> {
-        self.shape().check_column(column)?;
-        Ok(self.table.tally(column))
+        self.shape.check_column(column)?;
+        Ok(self.table[column as usize].tally())
     }
 
     fn read(&mut self, column: u32, row: u32, buffer: &mut [u8]) -> Result<(), Fault>
@@ -175,7 +159,7 @@ impl<'a> Tray for Flat<'a> {
     {
         self.judge(column, row, buffer.len())?;
         self.load(column, row, buffer);
-        self.count(column);
+        self.table[column as usize].count();
         Ok(())
     }
 
