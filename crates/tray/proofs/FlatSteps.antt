@@ -92,17 +92,21 @@ module _ (t : Flat) (c : ℕ) (h : c < t.shape.columns) where
   in_table held = let room = room_parts t.shape.columns t.shape.rows t.shape.size (length t.cells.now) t.room in omega (arith, room.0)
 
   pub read_counted : length t.table ≡ flat_columns → with_table (set t.table c (counted (get_or t.table c absent))) ≡ tallied (flat_of t) c
+  unfolding flat_of
   read_counted held = flat_tallied t.shape.columns t.shape.rows t.shape.size t.table t.cells.now t.room c h (in_table held)
 
   pub flag_turned : (on : Bool) → length t.table ≡ flat_columns → with_table (set t.table c (turned (get_or t.table c absent) on)) ≡ switched (flat_of t) c on
+  unfolding flat_of
   flag_turned on held = flat_switched t.shape.columns t.shape.rows t.shape.size t.table t.cells.now t.room c h (in_table held) on
 
   -- and a block read and written in its memory
   module _ (r : ℕ) (k : r < t.shape.rows) where
     pub block_read : (flat_of t).block c r ≡ take t.shape.size (drop (start_of t.shape.rows t.shape.size c r) t.cells.now)
+    unfolding flat_of
     block_read = simp (lt-ltb c t.shape.columns h, lt-ltb r t.shape.rows k)
 
     pub block_written : (bytes : List ℕ) → length bytes ≡ t.shape.size → with_cells (written (flat_of t) c r bytes t.cells.now) ≡ stored (flat_of t) c r bytes
+    unfolding flat_of
     block_written bytes e = flat_stored t.shape.columns t.shape.rows t.shape.size t.table t.cells.now t.room c h r bytes k e
 
 -- fresh records for all columns

@@ -24,6 +24,7 @@ room_parts c r s n e =
     (leb-true c flat_columns p.0, leb-true r flat_rows q.0, leb-true s flat_size o.0, leb-true (c * r * s) n o.1)
 
 pub flat_sized : (t : Flat) → Sized (flat_of t)
+unfolding flat_of
 flat_sized t c r hc hr =
     let s = t.shape in
     let room = room_parts s.columns s.rows s.size (length t.cells.now) t.room in
@@ -31,4 +32,5 @@ flat_sized t c r hc hr =
     simp (lt-ltb c s.columns hc, lt-ltb r s.rows hr, length-take, length-drop) (omega arith)
 
 pub flat_wraps : (t : Flat) → Wraps (flat_of t)
+unfolding flat_of
 flat_wraps t c = cond_both (nat_lt c t.shape.columns) ((slice_index_or t.table c absent).reads % 2 ^ 32) 0 (λ n. n < 2 ^ 32) (λ _. omega arith) (λ _. omega arith)

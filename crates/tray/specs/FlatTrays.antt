@@ -27,7 +27,7 @@ flat_meaning columns rows size table cells = record {
   tally = λ c. cond (nat_lt c columns) ((slice_index_or table c absent).reads % 2 ^ 32) 0;
 }
 
-abbrev pub flat_of : Flat → Meaning
+unfoldable pub flat_of : Flat → Meaning
 flat_of t = flat_meaning t.shape.columns t.shape.rows t.shape.size t.table t.cells.now
 
 -- A new flat tray that has room: all its columns answer, none was read, and the bytes of the memory

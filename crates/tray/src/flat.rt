@@ -40,6 +40,7 @@ impl Shape {
     }
 }
 
+#[tactic(auto, unfolding(crate::specs::FlatTrays::flat_of))]
 impl<'a> Flat<'a> {
     ghost use Rattle.tray.specs.FlatTrays.{start_of, written, flat_of, new_flat};
 
@@ -126,6 +127,7 @@ impl<'a> Flat<'a> {
 
 // Each method has the trait's own clauses, and says besides what the memory holds and that it stays
 // the caller's, so that the caller knows its bytes once the tray has ended.
+#[tactic(auto, unfolding(crate::specs::FlatTrays::flat_of))]
 impl<'a> Tray for Flat<'a> {
     ghost use Rattle.tray.specs.FlatTrays.{written, flat_of};
     ghost use Rattle.tray.specs.FlatOwes.{flat_sized, flat_wraps};

@@ -4,6 +4,7 @@ use Rattle.tray.proofs.FlatSteps.{block_read}
 use Rattle.tray.proofs.flat.Flat.load.Goals as goal
 
 pub returns : goal.returns
+unfolding flat_of
 returns c =
     let t = c.args.self.now in
     let ready = c.requires in

@@ -1,8 +1,10 @@
+use Rattle.tray.specs.FlatTrays.{flat_of}
 use Rattle.std.proofs.Common.{length}
 use Rattle.tray.specs.FlatOwes.{place_within, room_parts}
 use Rattle.tray.proofs.flat.Flat.start.Goals as goal
 
 pub returns-clause-bound : goal.returns-clause-bound
+unfolding flat_of
 returns-clause-bound c =
     let t = c.args.self.now in
     let s = t.shape in

@@ -1,3 +1,4 @@
+use Rattle.tray.specs.FlatTrays.{flat_of}
 use Rattle.std.proofs.Common.{length, refl, ap, ◌∙◌, ap₂, arith}
 use lib.Seq.{paste}
 use Rattle.std.proofs.lemmas.Slice.{put_mid-paste}
@@ -5,6 +6,7 @@ use Rattle.tray.proofs.FlatSteps.{with_cells, block_written}
 use Rattle.tray.proofs.flat.Flat.store.Goals as goal
 
 pub returns : goal.returns
+unfolding flat_of
 returns c =
     let t = c.args.self.now in
     let block = c.args.block.now in
