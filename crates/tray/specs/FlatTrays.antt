@@ -1,6 +1,6 @@
 -- What a flat tray means: a memory that holds its blocks column after column, row after row within
 -- a column, beside a table with one record for each column.
-use Rattle.std.specs.Prelude.{ℕ, ◌+◌, ◌*◌, ◌%◌, ◌^◌, cond, ◌&&◌, List, [], length, take, drop, nat_lt, slice_index_or}
+use Rattle.std.specs.Prelude.{◌≡◌, ℕ, ◌+◌, ◌*◌, ◌%◌, ◌^◌, cond, ◌&&◌, List, [], length, take, drop, nat_lt, slice_index_or}
 use Rattle.std.proofs.Math.Seq.{paste}
 use Rattle.tray.specs.declared.flat.Flat.{Flat}
 use Rattle.tray.specs.declared.flat.columns.Column.{Column}
@@ -49,3 +49,8 @@ new_flat columns rows size cells = cond (has_room columns rows size (length cell
 -- What a memory holds once a block is written at a place of a flat tray m that lies in it.
 abbrev pub written : Meaning → ℕ → ℕ → List ℕ → List ℕ → List ℕ
 written m c r bytes cells = paste cells (start_of m.rows m.size c r) bytes m.size
+
+-- The memory of a tray stays the caller's own and holds the same bytes.
+pub record SameCells (old new : Flat) : Type 0 where
+  pub cells : new.cells.now ≡ old.cells.now
+  pub lender : new.cells.ghost_name ≡ old.cells.ghost_name

@@ -42,7 +42,7 @@ impl Shape {
 
 #[tactic(auto, unfolding(crate::specs::FlatTrays::flat_of))]
 impl<'a> Flat<'a> {
-    ghost use Rattle.tray.specs.FlatTrays.{start_of, written, flat_of, new_flat};
+    ghost use Rattle.tray.specs.FlatTrays.{start_of, written, flat_of, new_flat, SameCells};
 
     // A tray over `cells`, whose bytes are its blocks: every column answers, and none was read. It
     // is empty where the shape is beyond the limits or the memory is too little.
@@ -61,8 +61,7 @@ impl<'a> Flat<'a> {
     // Makes the tray anew over its memory, in another shape: every column answers, and none was read.
     pub fn renew(&mut self, shape: Shape)
         ensures after { flat_of self.new ≡ new_flat shape.columns shape.rows shape.size self.old.cells.now }
-        ensures cells { self.new.cells.now ≡ self.old.cells.now }
-        ensures lender { self.new.cells.ghost_name ≡ self.old.cells.ghost_name }
+        ensures cells { SameCells self.old self.new }
     {
         self.shape = shape.fitting(self.cells.len());
         self.table = [Column::NEW; MAX_COLUMNS as usize];
@@ -72,8 +71,7 @@ impl<'a> Flat<'a> {
     pub fn switch(&mut self, column: u32, on: bool) -> Result<(), Fault>
         ensures value { result ≡ asked (flat_of self.old) column tt }
         ensures after { flat_of self.new ≡ if_ok result (switched (flat_of self.old) column on) (flat_of self.old) }
-        ensures cells { self.new.cells.now ≡ self.old.cells.now }
-        ensures lender { self.new.cells.ghost_name ≡ self.old.cells.ghost_name }
+        ensures cells { SameCells self.old self.new }
     {
         self.shape.check_column(column)?;
         self.table[column as usize].switch(on);
@@ -129,7 +127,7 @@ impl<'a> Flat<'a> {
 // the caller's, so that the caller knows its bytes once the tray has ended.
 #[tactic(auto, unfolding(crate::specs::FlatTrays::flat_of))]
 impl<'a> Tray for Flat<'a> {
-    ghost use Rattle.tray.specs.FlatTrays.{written, flat_of};
+    ghost use Rattle.tray.specs.FlatTrays.{written, flat_of, SameCells};
     ghost use Rattle.tray.specs.FlatOwes.{flat_sized, flat_wraps};
 
     ghost meaning = { flat_of };
@@ -156,8 +154,7 @@ impl<'a> Tray for Flat<'a> {
         ensures value { result ≡ verdict (flat_of self.old) column row (length buffer.old) }
         ensures after { flat_of self.new ≡ if_ok result (tallied (flat_of self.old) column) (flat_of self.old) }
         ensures bytes { buffer.new ≡ if_ok result ((flat_of self.old).block column row) buffer.old }
-        ensures cells { self.new.cells.now ≡ self.old.cells.now }
-        ensures lender { self.new.cells.ghost_name ≡ self.old.cells.ghost_name }
+        ensures cells { SameCells self.old self.new }
     {
         self.judge(column, row, buffer.len())?;
         self.load(column, row, buffer);
