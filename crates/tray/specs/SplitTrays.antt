@@ -1,6 +1,8 @@
 -- What a split tray means: two trays side by side, the left one's columns first.
-use Rattle.std.specs.Prelude.{ℕ, ◌+◌, ◌-◌, ◌<◌, ◌≤◌, Bool, cond, ◌&&◌, Ok, Err, Result, ◌==◌, nat_le, nat_lt}
+use Rattle.std.specs.Prelude.{ℕ, ◌+◌, ◌-◌, Bool, cond, ◌&&◌, Ok, Err, Result, ◌==◌, nat_le, nat_lt}
 use Rattle.tray.specs.declared.fault.Fault.{Fault}
+use Rattle.tray.specs.declared.split.Half.{Half}
+use Rattle.tray.specs.declared.split.Half.TheVariants.{Left, Right}
 use Rattle.tray.specs.Limits.{split_columns}
 use Rattle.tray.specs.Meaning.{Meaning, empty}
 use Rattle.tray.specs.Refusals.{fault_at}
@@ -24,14 +26,9 @@ matching l r = l.rows == r.rows && (l.size == r.size && nat_le (l.columns + r.co
 abbrev pub split_of : Meaning → Meaning → Meaning
 split_of l r = cond (matching l r) (beside l r) empty
 
--- A column of a split tray that is not empty, in its left half and in its right half.
-pub record InLeft (l r : Meaning) (c : ℕ) : Type 0 where
-  pub whole : c < (split_of l r).columns
-  pub left : c < l.columns
-
-pub record InRight (l r : Meaning) (c : ℕ) : Type 0 where
-  pub whole : c < (split_of l r).columns
-  pub right : l.columns ≤ c
+-- The half of a split tray in which column c lies, with its number there.
+abbrev pub half_of : Meaning → ℕ → Half
+half_of l c = cond (nat_lt c l.columns) (Left c) (Right (c - l.columns))
 
 -- An answer whose fault is told of column c.
 abbrev pub answer_at : {X : Type 0} → Result X Fault → ℕ → Result X Fault

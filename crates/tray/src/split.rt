@@ -1,7 +1,6 @@
 // The split tray: two trays of any make side by side, the left one's columns first.
 ghost use Rattle.std.specs.Prelude.{◌≡◌};
-ghost use Rattle.tray.specs.SplitTrays.{split_of, answer_at, InLeft, InRight};
-ghost use Rattle.tray.specs.Meaning.{Reads, Writes};
+ghost use Rattle.tray.specs.SplitTrays.{split_of, half_of, answer_at};
 ghost use Rattle.tray.specs.SplitOwes.{split_sized, split_wraps};
 
 use crate::fault::Fault;
@@ -18,6 +17,12 @@ pub struct Split<L, R> {
     right: R,
 }
 
+// The half in which a column lies, with the column's number there.
+enum Half {
+    Left(u32),
+    Right(u32),
+}
+
 impl<L: Tray, R: Tray> Split<L, R> {
     pub fn new(left: L, right: R) -> Split<L, R>
         ensures value { split_of (L.Tray.meaning result.left) (R.Tray.meaning result.right) ≡ split_of (L.Tray.meaning left) (R.Tray.meaning right) }
@@ -27,38 +32,15 @@ impl<L: Tray, R: Tray> Split<L, R> {
         Split { left, right }
     }
 
-    // A read of a column of the left half, and of one of the right half, as a read of the whole.
-    fn read_left(&mut self, column: u32, row: u32, buffer: &mut [u8]) -> Result<(), Fault>
-        requires { InLeft (L.Tray.meaning self.old.left) (R.Tray.meaning self.old.right) column }
-        ensures { Reads (split_of (L.Tray.meaning self.old.left) (R.Tray.meaning self.old.right)) (split_of (L.Tray.meaning self.new.left) (R.Tray.meaning self.new.right)) column row buffer.old buffer.new result }
-    {
-        self.left.read(column, row, buffer)
-    }
-
-    fn read_right(&mut self, column: u32, row: u32, buffer: &mut [u8]) -> Result<(), Fault>
-        requires { InRight (L.Tray.meaning self.old.left) (R.Tray.meaning self.old.right) column }
-        ensures { Reads (split_of (L.Tray.meaning self.old.left) (R.Tray.meaning self.old.right)) (split_of (L.Tray.meaning self.new.left) (R.Tray.meaning self.new.right)) column row buffer.old buffer.new result }
+    fn half(&self, column: u32) -> Half
+        ensures { result ≡ half_of (L.Tray.meaning self.now.left) column }
     {
         let left = self.left.shape().columns;
-        let answer = self.right.read(column - left, row, buffer);
-        renamed(answer, column)
-    }
-
-    // The same of a write.
-    fn write_left(&mut self, column: u32, row: u32, buffer: &[u8]) -> Result<(), Fault>
-        requires { InLeft (L.Tray.meaning self.old.left) (R.Tray.meaning self.old.right) column }
-        ensures { Writes (split_of (L.Tray.meaning self.old.left) (R.Tray.meaning self.old.right)) (split_of (L.Tray.meaning self.new.left) (R.Tray.meaning self.new.right)) column row buffer.now result }
-    {
-        self.left.write(column, row, buffer)
-    }
-
-    fn write_right(&mut self, column: u32, row: u32, buffer: &[u8]) -> Result<(), Fault>
-        requires { InRight (L.Tray.meaning self.old.left) (R.Tray.meaning self.old.right) column }
-        ensures { Writes (split_of (L.Tray.meaning self.old.left) (R.Tray.meaning self.old.right)) (split_of (L.Tray.meaning self.new.left) (R.Tray.meaning self.new.right)) column row buffer.now result }
-    {
-        let left = self.left.shape().columns;
-        let answer = self.right.write(column - left, row, buffer);
-        renamed(answer, column)
+        if column < left {
+            Half::Left(column)
+        } else {
+            Half::Right(column - left)
+        }
     }
 }
 
@@ -66,10 +48,7 @@ impl<L: Tray, R: Tray> Split<L, R> {
 fn renamed(answer: Result<(), Fault>, column: u32) -> Result<(), Fault>
     ensures { result ≡ answer_at answer column }
 {
-    match answer {
-        Ok(()) => Ok(()),
-        Err(fault) => Err(fault.at(column)),
-    }
+    answer.map_err(|fault| fault.at(column))
 }
 
 impl<L: Tray, R: Tray> Tray for Split<L, R> {
@@ -96,39 +75,33 @@ impl<L: Tray, R: Tray> Tray for Split<L, R> {
 
     fn answers(&self, column: u32) -> Result<bool, Fault> {
         self.shape().check_column(column)?;
-        let left = self.left.shape().columns;
-        if column < left {
-            self.left.answers(column)
-        } else {
-            self.right.answers(column - left)
+        match self.half(column) {
+            Half::Left(at) => self.left.answers(at),
+            Half::Right(at) => self.right.answers(at),
         }
     }
 
     fn tally(&self, column: u32) -> Result<u32, Fault> {
         self.shape().check_column(column)?;
-        let left = self.left.shape().columns;
-        if column < left {
-            self.left.tally(column)
-        } else {
-            self.right.tally(column - left)
+        match self.half(column) {
+            Half::Left(at) => self.left.tally(at),
+            Half::Right(at) => self.right.tally(at),
         }
     }
 
     fn read(&mut self, column: u32, row: u32, buffer: &mut [u8]) -> Result<(), Fault> {
         self.shape().check_place(column, row, buffer.len())?;
-        if column < self.left.shape().columns {
-            self.read_left(column, row, buffer)
-        } else {
-            self.read_right(column, row, buffer)
+        match self.half(column) {
+            Half::Left(at) => self.left.read(at, row, buffer),
+            Half::Right(at) => renamed(self.right.read(at, row, buffer), column),
         }
     }
 
     fn write(&mut self, column: u32, row: u32, buffer: &[u8]) -> Result<(), Fault> {
         self.shape().check_place(column, row, buffer.len())?;
-        if column < self.left.shape().columns {
-            self.write_left(column, row, buffer)
-        } else {
-            self.write_right(column, row, buffer)
+        match self.half(column) {
+            Half::Left(at) => self.left.write(at, row, buffer),
+            Half::Right(at) => renamed(self.right.write(at, row, buffer), column),
         }
     }
 }
