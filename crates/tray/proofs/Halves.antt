@@ -1,28 +1,35 @@
--- What a block written in the right half of a split tray says of the whole.
-use Rattle.std.proofs.Common.{◌≡◌, ℕ, ◌+◌, ◌-◌, ◌<◌, ◌≤◌, true, List, Ok, Err, Result, refl, ⊎_elim, ap, arith}
+-- What a call on the right half of a split tray leaves of the whole.
+use Rattle.std.proofs.Common.{◌≡◌, ℕ, ◌+◌, ◌-◌, ◌<◌, ◌≤◌, true, List, Ok, Err, Result, refl, ap, ⊎_elim, arith}
 use mathlib.Core.Path.{fun_ext}
 use Rattle.std.proofs.lemmas.Bool.{cases_Bool}
 use Rattle.std.proofs.lemmas.Bool.Decides.{nat_tests}
 use Rattle.tray.specs.declared.fault.Fault.{Fault}
 use Rattle.tray.specs.declared.split.Half.TheVariants.{Right}
-use Rattle.tray.specs.Meaning.{Meaning, stored, if_ok}
+use Rattle.tray.specs.Meaning.{Meaning, tallied, stored, if_ok}
 use Rattle.tray.specs.SplitTrays.{beside, matching, split_of, half_of, answer_at}
 
--- the halves of a tray with a column match
-matched : (l r : Meaning) (c : ℕ) → c < (split_of l r).columns → matching l r ≡ true
-matched l r c h = ⊎_elim (λ e. e) (λ e. absurd (let k : c < 0 = rw e at h in omega arith)) (cases_Bool (matching l r))
+-- the right half changed where the call is accepted, so the whole is
+pub whole_step : {X : Type 0} (l r changed next whole : Meaning) (c : ℕ) (answer told : Result X Fault) → split_of l changed ≡ whole → next ≡ if_ok answer changed r → told ≡ answer_at answer c → split_of l next ≡ if_ok told whole (split_of l r)
+whole_step l r changed next whole c (Ok x) told h e t = rw (t, e) h
+whole_step l r changed next whole c (Err f) told h e t = rw (t, e) refl
 
-stored_right : (l r : Meaning) (c i : ℕ) (bytes : List ℕ) → c < (split_of l r).columns → l.columns ≤ c → split_of l (stored r (c - l.columns) i bytes) ≡ stored (split_of l r) c i bytes
-stored_right l r c i bytes b h =
-    let fit = matched l r c b in
-    let with_block : (ℕ → ℕ → List ℕ) → Meaning = λ k. record { columns = l.columns + r.columns; rows = l.rows; size = l.size; answers = (beside l r).answers; block = k; tally = (beside l r).tally } in
-    rw fit (ap with_block (fun_ext (λ j. fun_ext (λ k. grind (arith, nat_tests)))))
+-- column c of the whole, which is column at of the right half
+module _ (l r : Meaning) (c at : ℕ) (b : c < (split_of l r).columns) (e : Right at ≡ half_of l c) where
+  fit : matching l r ≡ true
+  fit = ⊎_elim (λ h. h) (λ h. absurd (let k : c < 0 = rw h at b in omega arith)) (cases_Bool (matching l r))
 
-in_right : (l : Meaning) (c at : ℕ) → Right at ≡ half_of l c → (l.columns ≤ c) × (at ≡ c - l.columns)
-in_right l c at e = (grind (arith, nat_tests), grind (arith, nat_tests))
+  beyond : l.columns ≤ c
+  beyond = grind (arith, nat_tests)
 
--- a write of the right half as a write of the whole
-pub written_right : {X : Type 0} (l r next : Meaning) (c at i : ℕ) (bytes : List ℕ) (answer told : Result X Fault) → c < (split_of l r).columns → Right at ≡ half_of l c
-    → next ≡ if_ok answer (stored r at i bytes) r → told ≡ answer_at answer c → split_of l next ≡ if_ok told (stored (split_of l r) c i bytes) (split_of l r)
-written_right l r next c at i bytes (Ok x) told b h e t = rw (t, e, (in_right l c at h).1) (stored_right l r c i bytes b (in_right l c at h).0)
-written_right l r next c at i bytes (Err f) told b h e t = rw (t, e) refl
+  its : at ≡ c - l.columns
+  its = grind (arith, nat_tests)
+
+  pub tallied_right : split_of l (tallied r at) ≡ tallied (split_of l r) c
+  tallied_right =
+      let with_tally : (ℕ → ℕ) → Meaning = λ t. record { columns = l.columns + r.columns; rows = l.rows; size = l.size; answers = (beside l r).answers; block = (beside l r).block; tally = t } in
+      rw (its, fit) (ap with_tally (fun_ext (λ j. let k = beyond in grind (arith, nat_tests))))
+
+  pub stored_right : (i : ℕ) (bytes : List ℕ) → split_of l (stored r at i bytes) ≡ stored (split_of l r) c i bytes
+  stored_right i bytes =
+      let with_block : (ℕ → ℕ → List ℕ) → Meaning = λ k. record { columns = l.columns + r.columns; rows = l.rows; size = l.size; answers = (beside l r).answers; block = k; tally = (beside l r).tally } in
+      rw (its, fit) (ap with_block (fun_ext (λ j. fun_ext (λ i. let k = beyond in grind (arith, nat_tests)))))

@@ -1,6 +1,6 @@
 use Rattle.std.proofs.Common.{◌<◌, arith}
 use Rattle.tray.specs.SplitTrays.{split_of}
-use Rattle.tray.proofs.Halves.{written_right}
+use Rattle.tray.proofs.Halves.{whole_step, stored_right}
 use Rattle.tray.proofs.split.SplitTray.write.Goals as goal
 
 pub returns-in-Right-clause-after : goal.returns-in-Right-clause-after
@@ -8,4 +8,4 @@ returns-in-Right-clause-after g c =
     let l = g.L.Tray.meaning c.args.self.now.left in
     let r = g.R.Tray.meaning c.args.self.now.right in
     let known : c.args.column < (split_of l r).columns = omega (arith, c.in_ok-check_place.ensures.ready.column, c.shape.ensures.columns) in
-    written_right l r _ c.args.column _ c.args.row c.args.buffer.now c.write-in-Right.result _ known c.in-Right.ensures c.write-in-Right.ensures.after c.renamed.ensures
+    whole_step l r _ _ _ c.args.column _ _ (stored_right l r c.args.column _ known c.in-Right.ensures c.args.row c.args.buffer.now) c.write-in-Right.ensures.after c.renamed.ensures
