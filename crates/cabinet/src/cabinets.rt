@@ -1,13 +1,108 @@
-// The cabinet as a value: its shape, and a drawer for each column.
+// The cabinet: its shape, and a drawer for each column.
+ghost use Rattle.std.specs.Prelude.{◌≡◌, ◌<◌, length, IfOk};
+ghost use Rattle.tray.specs.Meaning.{Ready, tallied, stored};
 ghost use Rattle.cabinet.specs.Drawers.{Stocked};
 
 use crate::drawers::Drawer;
-use tray::trays::Shape;
+use std::alloc::{AllocError, Global};
+use tray::fault::Fault;
+use tray::trays::{Shape, Tray};
 
 // There are as many drawers as columns, and each has room for all rows.
 #[derive(Drop)]
 pub struct Cabinet {
-    pub(crate) shape: Shape,
-    pub(crate) drawers: Vec<Drawer>,
+    shape: Shape,
+    drawers: Vec<Drawer>,
     ghost stocked: { Stocked shape drawers.items },
+}
+
+impl Cabinet {
+    ghost use Rattle.cabinet.specs.Cabinets.{drawers_of, cabinet_of, blank};
+
+    // A cabinet of any shape, its blocks all zeros, or an error where there is no memory for it.
+    pub fn new(heap: Global, shape: Shape) -> Result<Cabinet, AllocError>
+        ensures { IfOk result (λ t. cabinet_of t ≡ blank shape.columns shape.rows shape.size) }
+    {
+        let drawers = Cabinet::stock(heap, shape)?;
+        Ok(Cabinet { shape, drawers })
+    }
+
+    // A drawer of zeros for each column of a shape, or an error where there is no memory for them.
+    fn stock(heap: Global, shape: Shape) -> Result<Vec<Drawer>, AllocError>
+        ensures stocked { IfOk result (λ v. Stocked shape v.items) }
+        ensures value { IfOk result (λ v. drawers_of shape v.items ≡ blank shape.columns shape.rows shape.size) }
+    {
+        let len = shape.rows as usize * shape.size as usize;
+        let mut drawers = Vec::new(heap);
+        for _column in 0..shape.columns {
+            let drawer = Drawer::new(heap, len)?;
+            drawers.push(drawer)?;
+        }
+        Ok(drawers)
+    }
+
+    // How often a column was read.
+    fn reads(&self, column: u32) -> u32
+        requires { column < self.now.shape.columns }
+        ensures { result ≡ (cabinet_of self.now).tally column }
+    {
+        self.drawers[column as usize].tally()
+    }
+
+    // Fills a buffer with the block of a place, and counts the read.
+    fn load(&mut self, column: u32, row: u32, buffer: &mut [u8])
+        requires { Ready (cabinet_of self.old) column row (length buffer.old) }
+        ensures after { cabinet_of self.new ≡ tallied (cabinet_of self.old) column }
+        ensures bytes { buffer.new ≡ (cabinet_of self.old).block column row }
+    {
+        let at = row as usize * self.shape.size as usize;
+        self.drawers[column as usize].load(at, buffer);
+    }
+
+    // Puts a block at a place.
+    fn store(&mut self, column: u32, row: u32, block: &[u8])
+        requires { Ready (cabinet_of self.old) column row (length block.now) }
+        ensures { cabinet_of self.new ≡ stored (cabinet_of self.old) column row block.now }
+    {
+        let at = row as usize * self.shape.size as usize;
+        self.drawers[column as usize].store(at, block);
+    }
+}
+
+impl Tray for Cabinet {
+    ghost use Rattle.cabinet.specs.Cabinets.{cabinet_of};
+    ghost use Rattle.cabinet.specs.Owes.{cabinet_sized, cabinet_wraps};
+
+    ghost meaning = { cabinet_of };
+
+    ghost sized = { cabinet_sized };
+
+    ghost wraps = { cabinet_wraps };
+
+    fn shape(&self) -> Shape {
+        self.shape
+    }
+
+    // Every column answers.
+    fn answers(&self, column: u32) -> Result<bool, Fault> {
+        self.shape.check_column(column)?;
+        Ok(true)
+    }
+
+    fn tally(&self, column: u32) -> Result<u32, Fault> {
+        self.shape.check_column(column)?;
+        Ok(self.reads(column))
+    }
+
+    fn read(&mut self, column: u32, row: u32, buffer: &mut [u8]) -> Result<(), Fault> {
+        self.shape.check_place(column, row, buffer.len())?;
+        self.load(column, row, buffer);
+        Ok(())
+    }
+
+    fn write(&mut self, column: u32, row: u32, buffer: &[u8]) -> Result<(), Fault> {
+        self.shape.check_place(column, row, buffer.len())?;
+        self.store(column, row, buffer);
+        Ok(())
+    }
 }

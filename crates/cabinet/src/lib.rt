@@ -4,5 +4,4 @@
 #![tactic(auto)]
 
 pub mod cabinets;
-pub mod calls;
 pub mod drawers;

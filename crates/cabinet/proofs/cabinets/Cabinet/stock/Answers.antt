@@ -4,7 +4,7 @@ use Rattle.cabinet.specs.Cabinets.{cabinet_meaning}
 use Rattle.cabinet.specs.Drawers.{held, counts}
 use Rattle.cabinet.proofs.Stock.{stocked_new}
 use Rattle.cabinet.proofs.Steps.{blank_new}
-use Rattle.cabinet.proofs.calls.stock.Goals as goal
+use Rattle.cabinet.proofs.cabinets.Cabinet.stock.Goals as goal
 
 pub loop-column-preserved : goal.loop-column-preserved
 loop-column-preserved c =

@@ -1,6 +1,6 @@
 use Rattle.std.proofs.Common.{◌≡◌, replicate, vec_items}
 use Rattle.cabinet.specs.Drawers.{held, counts}
-use Rattle.cabinet.proofs.calls.stock.Given as goal
+use Rattle.cabinet.proofs.cabinets.Cabinet.stock.Given as goal
 
 -- A drawer for each column so far, each with zeros and never read.
 abbrev pub invariant-loop-column : goal.invariant-loop-column
