@@ -1,11 +1,17 @@
 -- The drawers of a cabinet as lists, and what a change of one drawer leaves of them.
-use Rattle.std.proofs.Common.{◌≡◌, ℕ, ◌*◌, ◌<◌, List, [], length, get_or, set, replicate, vec_items, sym, ap, ◌∙◌, ⊎_elim, arith, length-set}
+use Rattle.std.proofs.Common.{◌≡◌, ℕ, ◌*◌, ◌<◌, List, [], ◌∷◌, All, map, length, get_or, set, replicate, vec_items, sym, refl, ap, ap₂, ◌∙◌, ⊎_elim, arith, length-set}
 use lib.Seq.{map-set, map-set_same}
 use Rattle.std.proofs.lemmas.List.{get_or-map, get_or-set_same, get_or-set_other, get_or-replicate, length-map, length-replicate}
+use Rattle.std.proofs.lemmas.List.Elements.{All-head, All-tail}
 use Rattle.std.proofs.lemmas.Bool.{cases_eq}
 use Rattle.tray.specs.declared.trays.Shape.{Shape}
 use Rattle.cabinet.specs.declared.drawers.Drawer.{Drawer}
-use Rattle.cabinet.specs.Drawers.{held, counts, Stocked}
+use Rattle.cabinet.specs.Drawers.{held, counts, IsFresh, Stocked}
+
+-- what all elements of a list show alike
+map_same : {X Y : Type 0} (P : X → Type 0) (f : X → Y) (y : Y) → ((x : X) → P x → f x ≡ y) → (xs : List X) → All P xs → map f xs ≡ replicate (length xs) y
+map_same P f y h [] all = refl
+map_same P f y h (x ∷ xs) all = ap₂ (λ v vs. v ∷ vs) (h x (All-head P x xs all)) (map_same P f y h xs (All-tail P x xs all))
 
 -- the drawer d of column c
 module _ (drawers : List Drawer) (c : ℕ) (h : c < length drawers) (d : Drawer) (here : d ≡ get_or drawers c d) where
@@ -40,9 +46,13 @@ module _ (drawers : List Drawer) (c : ℕ) (h : c < length drawers) (d : Drawer)
           (cases_eq j c)),
     )
 
--- Fresh drawers: one for each column, with zeros.
-pub stocked_new : (columns rows size : ℕ) (drawers : List Drawer) → held drawers ≡ replicate columns (replicate (rows * size) 0) → Stocked (record { columns = columns; rows = rows; size = size }) drawers
-stocked_new columns rows size drawers e = (
-  sym (length-map drawers (λ x. vec_items x.bytes)) ∙ (ap length e ∙ length-replicate columns (replicate (rows * size) 0)),
-  λ c h. rw e (ap length (get_or-replicate columns c (replicate (rows * size) 0) [] h) ∙ length-replicate (rows * size) 0),
-)
+-- Fresh drawers, one for each column: zeros in all, and none was read.
+module _ (columns rows size : ℕ) (drawers : List Drawer) (many : length drawers ≡ columns) (fresh : All (IsFresh (rows * size)) drawers) where
+  pub held_fresh : held drawers ≡ replicate columns (replicate (rows * size) 0)
+  held_fresh = map_same (IsFresh (rows * size)) (λ x. vec_items x.bytes) _ (λ d f. f.bytes) drawers fresh ∙ ap (λ n. replicate n (replicate (rows * size) 0)) many
+
+  pub counts_fresh : counts drawers ≡ replicate columns 0
+  counts_fresh = map_same (IsFresh (rows * size)) (λ x. x.reads) 0 (λ d f. f.reads) drawers fresh ∙ ap (λ n. replicate n 0) many
+
+  pub stocked_fresh : Stocked (record { columns = columns; rows = rows; size = size }) drawers
+  stocked_fresh = (many, λ c h. rw held_fresh (ap length (get_or-replicate columns c (replicate (rows * size) 0) [] h) ∙ length-replicate (rows * size) 0))

@@ -1,7 +1,12 @@
 -- The drawers of a cabinet by what they hold.
-use Rattle.std.specs.Prelude.{◌≡◌, ℕ, ◌*◌, ◌<◌, List, [], map, length, vec_items, slice_index_or}
+use Rattle.std.specs.Prelude.{◌≡◌, ℕ, ◌*◌, ◌<◌, List, [], map, length, replicate, vec_items, slice_index_or}
 use Rattle.tray.specs.declared.trays.Shape.{Shape}
 use Rattle.cabinet.specs.declared.drawers.Drawer.{Drawer}
+
+-- A drawer of n zero bytes that was never read.
+pub record IsFresh (n : ℕ) (drawer : Drawer) : Type 0 where
+  pub bytes : vec_items drawer.bytes ≡ replicate n 0
+  pub reads : drawer.reads ≡ 0
 
 -- The bytes in each drawer.
 abbrev pub held : List Drawer → List (List ℕ)

@@ -1,7 +1,7 @@
 // The cabinet: its shape, and a drawer for each column.
-ghost use Rattle.std.specs.Prelude.{◌≡◌, ◌<◌, length, IfOk};
+ghost use Rattle.std.specs.Prelude.{◌≡◌, ◌<◌, length, All, IfOk};
 ghost use Rattle.tray.specs.Meaning.{Ready, tallied, stored};
-ghost use Rattle.cabinet.specs.Drawers.{Stocked};
+ghost use Rattle.cabinet.specs.Drawers.{IsFresh, Stocked};
 
 use crate::drawers::Drawer;
 use std::alloc::{AllocError, Global};
@@ -17,28 +17,25 @@ pub struct Cabinet {
 }
 
 impl Cabinet {
-    ghost use Rattle.cabinet.specs.Cabinets.{drawers_of, cabinet_of, blank};
+    ghost use Rattle.cabinet.specs.Cabinets.{cabinet_of, blank};
 
     // A cabinet of any shape, its blocks all zeros, or an error where there is no memory for it.
     pub fn new(heap: Global, shape: Shape) -> Result<Cabinet, AllocError>
         ensures { IfOk result (λ t. cabinet_of t ≡ blank shape.columns shape.rows shape.size) }
     {
-        let drawers = Cabinet::stock(heap, shape)?;
+        let len = shape.rows as usize * shape.size as usize;
+        let drawers = Cabinet::stock(heap, shape.columns, len)?;
         Ok(Cabinet { shape, drawers })
     }
 
-    // A drawer of zeros for each column of a shape, or an error where there is no memory for them.
-    fn stock(heap: Global, shape: Shape) -> Result<Vec<Drawer>, AllocError>
-        ensures stocked { IfOk result (λ v. Stocked shape v.items) }
-        ensures value { IfOk result (λ v. drawers_of shape v.items ≡ blank shape.columns shape.rows shape.size) }
+    // So many drawers of `len` zeros, or an error where there is no memory for them.
+    fn stock(heap: Global, columns: u32, len: usize) -> Result<Vec<Drawer>, AllocError>
+        ensures many { IfOk result (λ v. length v.items ≡ columns) }
+        ensures fresh { IfOk result (λ v. All (IsFresh len) v.items) }
     {
-        let len = shape.rows as usize * shape.size as usize;
-        let mut drawers = Vec::new(heap);
-        for _column in 0..shape.columns {
-            let drawer = Drawer::new(heap, len)?;
-            drawers.push(drawer)?;
-        }
-        Ok(drawers)
+        (0..columns)
+            .map(|_| -> Result<Drawer, AllocError> { Drawer::new(heap, len) })
+            .try_collect(heap)
     }
 
     // How often a column was read.

@@ -1,5 +1,5 @@
 // A drawer: one column of a cabinet.
-ghost use Rattle.std.specs.Prelude.{◌≡◌, ◌+◌, ◌%◌, ◌^◌, ◌≤◌, length, take, drop, replicate, IfOk, vec_len};
+ghost use Rattle.std.specs.Prelude.{◌≡◌, ◌+◌, ◌%◌, ◌^◌, ◌≤◌, length, take, drop, IfOk, vec_len};
 ghost use Rattle.std.proofs.Math.Seq.{paste};
 
 use std::alloc::{AllocError, Global};
@@ -12,10 +12,11 @@ pub struct Drawer {
 }
 
 impl Drawer {
+    ghost use Rattle.cabinet.specs.Drawers.{IsFresh};
+
     // A drawer of `len` zero bytes that was never read, or an error where there is no memory.
     pub(crate) fn new(heap: Global, len: usize) -> Result<Drawer, AllocError>
-        ensures bytes { IfOk result (λ d. d.bytes.items ≡ replicate len 0) }
-        ensures reads { IfOk result (λ d. d.reads ≡ 0) }
+        ensures { IfOk result (IsFresh len) }
     {
         let bytes = vec![in heap; 0u8; len]?;
         Ok(Drawer { bytes, reads: 0 })
