@@ -1,5 +1,5 @@
 -- What a read and a write leave of a cabinet's meaning.
-use Rattle.std.proofs.Common.{◌≡◌, ℕ, ◌+◌, ◌-◌, ◌*◌, ◌%◌, ◌^◌, ◌<◌, ◌≤◌, cond, ◌&&◌, eqb, ltb, List, [], length, get_or, take, drop, set, replicate, vec_items, vec_len, sym, refl, ap, ◌∙◌, ap₂, ⊎_elim, arith}
+use Rattle.std.proofs.Common.{◌≡◌, ℕ, ◌+◌, ◌-◌, ◌*◌, ◌%◌, ◌^◌, ◌<◌, ◌≤◌, cond, ◌&&◌, eqb, ltb, List, [], length, get_or, set, replicate, vec_items, vec_len, sym, refl, ap, ◌∙◌, ap₂, ⊎_elim, arith}
 use mathlib.Core.Path.{fun_ext}
 use lib.Seq.{paste}
 use Rattle.std.proofs.lemmas.List.{get_or-set_same, get_or-set_other, get_or-replicate, take-replicate, drop-replicate, length-replicate, length-map, get_or_past}
@@ -77,9 +77,6 @@ module _ (t : Cabinet) (c : ℕ) (hc : c < t.shape.columns) (d : Drawer) (at_c :
   module _ (r n : ℕ) (hr : r < t.shape.rows) (e : n ≡ t.shape.size) where
     pub block_fits : r * t.shape.size + n ≤ vec_len d.bytes
     block_fits = omega (arith, e, row_within t.shape.rows t.shape.size r (length (get_or (held drawers) c [])) hr full, ap length its, d.bytes.ok.0)
-
-    pub block_read : take n (drop (r * t.shape.size) (vec_items d.bytes)) ≡ (cabinet_of t).block c r
-    block_read = simp (e, its, lt-ltb c t.shape.columns hc, lt-ltb r t.shape.rows hr)
 
   module _ (e : Drawer) where
     pub drawer_read : vec_items e.bytes ≡ vec_items d.bytes → e.reads ≡ (d.reads + 1) % 2 ^ 32 → of (held (set drawers c e)) (counts (set drawers c e)) ≡ tallied (cabinet_of t) c

@@ -38,14 +38,6 @@ impl Cabinet {
             .try_collect(heap)
     }
 
-    // How often a column was read.
-    fn reads(&self, column: u32) -> u32
-        requires { column < self.now.shape.columns }
-        ensures { result ≡ (cabinet_of self.now).tally column }
-    {
-        self.drawers[column as usize].tally()
-    }
-
     // Fills a buffer with the block of a place, and counts the read.
     fn load(&mut self, column: u32, row: u32, buffer: &mut [u8])
         requires { Ready (cabinet_of self.old) column row (length buffer.old) }
@@ -88,7 +80,7 @@ impl Tray for Cabinet {
 
     fn tally(&self, column: u32) -> Result<u32, Fault> {
         self.shape.check_column(column)?;
-        Ok(self.reads(column))
+        Ok(self.drawers[column as usize].tally())
     }
 
     fn read(&mut self, column: u32, row: u32, buffer: &mut [u8]) -> Result<(), Fault> {
