@@ -29,49 +29,33 @@ mod tests {
     ) {
         let mut buffer = [9u8; 3];
         assert!(rt; len <= 3);
-        both_refused(rt, tray, column, row, &mut buffer[0..len], fault);
+        assert_eq!(rt; tray.read(column, row, &mut buffer[..len]), Err(fault));
+        assert_eq!(rt; tray.write(column, row, &buffer[..len]), Err(fault));
         assert_eq!(rt; buffer, [9, 9, 9]);
-    }
-
-    fn both_refused<T: Tray>(
-        rt: &impl Abort,
-        tray: &mut T,
-        column: u32,
-        row: u32,
-        buffer: &mut [u8],
-        fault: Fault,
-    ) {
-        assert_eq!(rt; tray.read(column, row, buffer), Err(fault));
-        assert_eq!(rt; tray.write(column, row, buffer), Err(fault));
     }
 
     #[test]
     fn numbers(rt: HostRuntime) {
-        let sent = [
-            Refusal::ColumnTooHigh,
-            Refusal::RowTooHigh,
-            Refusal::WrongBuffer,
-            Refusal::ShortWork,
-            Refusal::OutsideLimits,
-            Refusal::UnknownCommand,
-            Refusal::ScriptEnds,
-            Refusal::NoSuchEntry,
-            Refusal::ShortLine,
+        let numbered = [
+            (1, Refusal::ColumnTooHigh),
+            (2, Refusal::RowTooHigh),
+            (3, Refusal::WrongBuffer),
+            (4, Refusal::ShortWork),
+            (5, Refusal::OutsideLimits),
+            (6, Refusal::UnknownCommand),
+            (7, Refusal::ScriptEnds),
+            (8, Refusal::NoSuchEntry),
+            (9, Refusal::ShortLine),
+            (11, Refusal::ShapeDiffers),
+            (12, Refusal::AlreadyOut),
+            (13, Refusal::NotOut),
+            (14, Refusal::TwoOut),
+            (15, Refusal::Silent),
+            (16, Refusal::ColumnOut),
+            (17, Refusal::OutOfOrder),
         ];
-        for (i, refusal) in sent.iter().enumerate() {
-            assert_eq!(rt; refusal.number() as usize, i + 1);
-        }
-        let standing = [
-            Refusal::ShapeDiffers,
-            Refusal::AlreadyOut,
-            Refusal::NotOut,
-            Refusal::TwoOut,
-            Refusal::Silent,
-            Refusal::ColumnOut,
-            Refusal::OutOfOrder,
-        ];
-        for (i, refusal) in standing.iter().enumerate() {
-            assert_eq!(rt; refusal.number() as usize, i + 11);
+        for (number, refusal) in numbered {
+            assert_eq!(rt; refusal.number(), number);
         }
     }
 
@@ -81,33 +65,25 @@ mod tests {
     fn limits(rt: HostRuntime) -> Result<(), Fail> {
         let mut memory = vec![in rt.alloc(); 0u8; 13 * 1024 * 512]?;
         let cases = [
-            (13, 1024, 512, 13 * 1024 * 512, true),
-            (13, 1024, 512, 13 * 1024 * 512 - 1, false),
-            (13, 1, 1, 13, true),
-            (13, 1, 1, 12, false),
-            (14, 1, 1, 1000, false),
-            (1, 1024, 1, 1024, true),
-            (1, 1025, 1, 2000, false),
-            (1, 1, 512, 512, true),
-            (1, 1, 513, 2000, false),
-            (0, 0, 0, 0, true),
-            (3, 0, 5, 0, true),
-            (3, 4, 0, 0, true),
-            (0, 1024, 512, 0, true),
-            (0, 1025, 1, 0, false),
+            (Shape::new(13, 1024, 512), 13 * 1024 * 512, true),
+            (Shape::new(13, 1024, 512), 13 * 1024 * 512 - 1, false),
+            (Shape::new(13, 1, 1), 13, true),
+            (Shape::new(13, 1, 1), 12, false),
+            (Shape::new(14, 1, 1), 1000, false),
+            (Shape::new(1, 1024, 1), 1024, true),
+            (Shape::new(1, 1025, 1), 2000, false),
+            (Shape::new(1, 1, 512), 512, true),
+            (Shape::new(1, 1, 513), 2000, false),
+            (Shape::new(0, 0, 0), 0, true),
+            (Shape::new(3, 0, 5), 0, true),
+            (Shape::new(3, 4, 0), 0, true),
+            (Shape::new(0, 1024, 512), 0, true),
+            (Shape::new(0, 1025, 1), 0, false),
         ];
-        for (columns, rows, size, len, fits) in cases {
+        for (shape, len, fits) in cases {
             assert!(rt; len <= memory.len());
-            let tray = Flat::new(Shape::new(columns, rows, size), &mut memory[0..len]);
-            let expected = if fits {
-                Shape {
-                    columns,
-                    rows,
-                    size,
-                }
-            } else {
-                Shape::EMPTY
-            };
+            let tray = Flat::new(shape, &mut memory[..len]);
+            let expected = if fits { shape } else { Shape::EMPTY };
             assert_eq!(rt; tray.shape(), expected);
         }
         Ok(())
@@ -160,12 +136,7 @@ mod tests {
             tray.switch(0, true)?;
             assert_eq!(rt; byte_at(&mut tray, 0, 0), Ok(0));
         }
-        let shape = Shape {
-            columns: 2,
-            rows: 3,
-            size: 1,
-        };
-        stamp(shape, &mut memory, 0, 1, &[8])?;
+        stamp(Shape::new(2, 3, 1), &mut memory, 0, 1, &[8])?;
         assert_eq!(rt; memory, [0, 8, 0, 0, 0, 5]);
         Ok(())
     }
@@ -234,28 +205,25 @@ mod tests {
     #[test]
     fn halves_that_match(rt: HostRuntime) -> Result<(), Fail> {
         let cases = [
-            (6, 4, 2, 7, 4, 2, 13),
-            (6, 4, 2, 8, 4, 2, 0),
-            (14, 4, 2, 0, 4, 2, 0),
-            (0, 4, 2, 13, 4, 2, 13),
-            (2, 4, 2, 2, 5, 2, 0),
-            (2, 4, 2, 2, 4, 3, 0),
-            (0, 0, 0, 0, 0, 0, 0),
+            (Shape::new(6, 4, 2), Shape::new(7, 4, 2), 13),
+            (Shape::new(6, 4, 2), Shape::new(8, 4, 2), 0),
+            (Shape::new(14, 4, 2), Shape::new(0, 4, 2), 0),
+            (Shape::new(0, 4, 2), Shape::new(13, 4, 2), 13),
+            (Shape::new(2, 4, 2), Shape::new(2, 5, 2), 0),
+            (Shape::new(2, 4, 2), Shape::new(2, 4, 3), 0),
+            (Shape::new(0, 0, 0), Shape::new(0, 0, 0), 0),
         ];
-        for (columns, rows, size, others, their_rows, their_size, all) in cases {
-            let left = Cabinet::new(rt.alloc(), Shape::new(columns, rows, size))?;
-            let right = Cabinet::new(rt.alloc(), Shape::new(others, their_rows, their_size))?;
-            let shape = Split::new(left, right).shape();
-            let expected = if all == 0 {
+        for (left, right, columns) in cases {
+            let halves = Split::new(
+                Cabinet::new(rt.alloc(), left)?,
+                Cabinet::new(rt.alloc(), right)?,
+            );
+            let expected = if columns == 0 {
                 Shape::EMPTY
             } else {
-                Shape {
-                    columns: all,
-                    rows,
-                    size,
-                }
+                Shape { columns, ..left }
             };
-            assert_eq!(rt; shape, expected);
+            assert_eq!(rt; halves.shape(), expected);
         }
         Ok(())
     }
