@@ -66,14 +66,3 @@ switched m c on = record { columns = m.columns; rows = m.rows; size = m.size; an
 abbrev pub if_ok : {X Y Z : Type 0} → Result X Y → Z → Z → Z
 if_ok (Ok _) x y = x
 if_ok (Err _) x y = y
-
--- What a read and a write of a tray do: what they answer, what the tray m comes to mean, and what the
--- buffer of the read holds.
-pub record Reads (m next : Meaning) (c r : ℕ) (was buffer : List ℕ) (answer : Result (Unit {0}) Fault) : Type 0 where
-  pub value : answer ≡ verdict m c r (length was)
-  pub after : next ≡ if_ok answer (tallied m c) m
-  pub bytes : buffer ≡ if_ok answer (m.block c r) was
-
-pub record Writes (m next : Meaning) (c r : ℕ) (bytes : List ℕ) (answer : Result (Unit {0}) Fault) : Type 0 where
-  pub value : answer ≡ verdict m c r (length bytes)
-  pub after : next ≡ if_ok answer (stored m c r bytes) m

@@ -61,15 +61,11 @@ impl<L: Tray, R: Tray> Tray for Split<L, R> {
     fn shape(&self) -> Shape {
         let left = self.left.shape();
         let right = self.right.shape();
-        if left.rows != right.rows || left.size != right.size {
-            return Shape::EMPTY;
-        }
-        if left.columns > MAX_COLUMNS || right.columns > MAX_COLUMNS - left.columns {
-            return Shape::EMPTY;
-        }
-        Shape {
-            columns: left.columns + right.columns,
-            ..left
+        let columns = left.columns.saturating_add(right.columns);
+        if left.rows == right.rows && left.size == right.size && columns <= MAX_COLUMNS {
+            Shape { columns, ..left }
+        } else {
+            Shape::EMPTY
         }
     }
 
