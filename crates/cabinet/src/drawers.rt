@@ -18,8 +18,10 @@ impl Drawer {
     pub(crate) fn new(heap: Global, len: usize) -> Result<Drawer, AllocError>
         ensures { IfOk result (IsFresh len) }
     {
-        let bytes = vec![in heap; 0u8; len]?;
-        Ok(Drawer { bytes, reads: 0 })
+        Ok(Drawer {
+            bytes: vec![in heap; 0u8; len]?,
+            reads: 0,
+        })
     }
 
     pub(crate) fn tally(&self) -> u32

@@ -53,6 +53,7 @@ pub struct Fault {
 }
 
 impl Fault {
+    // A fault that a layer tells of its own.
     fn told_by(layer: Layer, refusal: Refusal, column: Option<u32>, row: Option<u32>) -> Fault
         ensures { result ≡ record { refusal = refusal; layer = layer; column = column; row = row } }
     {
