@@ -16,6 +16,12 @@ pub a_width : (k : ℕ) → is_width k ≡ true → Width k
 unfolding is_width
 a_width k e = record { low = grind (arith, nat_tests); high = grind (arith, nat_tests); odd = grind (arith, nat_tests) }
 
+pub low_width : (k : ℕ) → is_width k ≡ true → 3 ≤ k
+low_width k e = (a_width k e).low
+
+pub high_width : (k : ℕ) → is_width k ≡ true → k ≤ 11
+high_width k e = (a_width k e).high
+
 pub law_of_width : (k : ℕ) → is_width k ≡ true → Tournament k (published k)
 law_of_width k e = odd_widths k (a_width k e).odd
 

@@ -34,6 +34,7 @@ pub struct Width {
 
 impl Width {
     // The width of k data columns, if a shelf may have that many.
+    #[tactic(auto, using(crate::proofs::Limits::low_width, crate::proofs::Limits::high_width))]
     pub fn new(k: u32) -> Option<Width>
         ensures given { IsSome result ↔ (is_width k ≡ true) }
         ensures value { IfSome result (λ w. w.number ≡ k) }
@@ -46,6 +47,7 @@ impl Width {
     }
 
     // The rows of each column, which are also its lines.
+    #[tactic(auto, using(crate::proofs::Limits::few_rows))]
     pub fn rows(self) -> u32
         ensures value { result ≡ rows self.number }
         ensures few { result ≤ 1024 }
