@@ -1,6 +1,7 @@
 -- Commands, by their operands.
 use Rattle.std.specs.Prelude.{ℕ, ◌+◌, ◌*◌, List}
 use Rattle.script.specs.declared.command.Number.{Number}
+use Rattle.script.specs.declared.command.Place.{Place}
 use Rattle.script.specs.declared.command.Plan.{Plan}
 use Rattle.script.specs.declared.command.Command.{Command}
 use Rattle.script.specs.declared.command.Command.TheVariants as command
@@ -29,6 +30,10 @@ word high low = high * 256 + low
 
 abbrev pub number_of : Number → ℕ
 number_of n = word n.high.now n.low.now
+
+-- a place is a column and a row
+abbrev pub place_of : Place → ℕ × ℕ
+place_of p = (p.column.now, number_of p.row)
 
 -- a plan is a width and a size
 abbrev pub plan_of : Plan → ℕ × ℕ

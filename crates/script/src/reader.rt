@@ -3,7 +3,7 @@ ghost use Rattle.std.specs.Prelude.{◌≡◌};
 ghost use Rattle.script.specs.Letters.{is_letter};
 ghost use Rattle.script.specs.Reading.{lettered, letter_of, reading, read_of, reading_first, first_of};
 
-use crate::command::{Command, Number, Place, Plan};
+use crate::command::{Command, Place, Plan};
 use crate::source::Source;
 use tray::fault::{Fault, Refusal};
 
@@ -11,9 +11,7 @@ use tray::fault::{Fault, Refusal};
 pub fn split_letter(script: &[u8]) -> Option<(char, &[u8])>
     ensures { letter_of result ≡ lettered script.now }
 {
-    let [letter, rest @ ..] = script else {
-        return None;
-    };
+    let (letter, rest) = script.split_first()?;
     Some((char::from(*letter), rest))
 }
 
@@ -33,37 +31,30 @@ pub fn read(letter: char, operands: &[u8], size: u32) -> Result<(Command<'_>, &[
 {
     match (letter, operands) {
         ('L', [width, high, low, rest @ ..]) => {
-            let size = Number { high, low };
-            Ok((Command::Layout(Plan { width, size }), rest))
+            Ok((Command::Layout(Plan::new(width, high, low)), rest))
         }
         ('X', [column, rest @ ..]) => Ok((Command::Pull { column }, rest)),
         ('R', [column, rest @ ..]) => Ok((Command::Rebuild { column }, rest)),
         ('S', rest) => Ok((Command::Sweep, rest)),
         ('G', [column, high, low, rest @ ..]) => {
-            let row = Number { high, low };
-            Ok((Command::Get(Place { column, row }), rest))
+            Ok((Command::Get(Place::new(column, high, low)), rest))
         }
         ('P', [column, high, low, rest @ ..]) if rest.len() >= size as usize => {
-            let row = Number { high, low };
+            let place = Place::new(column, high, low);
             let (block, rest) = rest.split_at(size as usize);
-            let place = Place { column, row };
             Ok((Command::Put(place, Source::Script(block)), rest))
         }
         ('Q', [column, high, low, entry, rest @ ..]) => {
-            let row = Number { high, low };
-            let place = Place { column, row };
+            let place = Place::new(column, high, low);
             Ok((Command::Put(place, Source::Sheet(entry)), rest))
         }
         ('D', [drilled, column, high, low, rest @ ..]) => {
-            let row = Number { high, low };
-            let place = Place { column, row };
+            let place = Place::new(column, high, low);
             Ok((Command::Drill { drilled, place }, rest))
         }
         ('U', [column, flag, rest @ ..]) => Ok((Command::Switch { column, flag }, rest)),
         ('F', [column, byte, rest @ ..]) => Ok((Command::Fill { column, byte }, rest)),
-        ('L' | 'X' | 'R' | 'G' | 'P' | 'Q' | 'D' | 'U' | 'F', _) => {
-            Err(Fault::script(Refusal::ScriptEnds))
-        }
+        (letter, _) if is_letter(letter) => Err(Fault::script(Refusal::ScriptEnds)),
         _ => Err(Fault::script(Refusal::UnknownCommand)),
     }
 }
@@ -73,15 +64,10 @@ pub fn read(letter: char, operands: &[u8], size: u32) -> Result<(Command<'_>, &[
 pub fn read_first(letter: char, operands: &[u8]) -> Result<(Plan<'_>, &[u8]), Fault>
     ensures { first_of result ≡ reading_first letter operands.now }
 {
-    if !is_letter(letter) {
-        return Err(Fault::script(Refusal::UnknownCommand));
+    match (letter, operands) {
+        ('L', [width, high, low, rest @ ..]) => Ok((Plan::new(width, high, low), rest)),
+        ('L', _) => Err(Fault::script(Refusal::ScriptEnds)),
+        (letter, _) if is_letter(letter) => Err(Fault::script(Refusal::OutOfOrder)),
+        _ => Err(Fault::script(Refusal::UnknownCommand)),
     }
-    if letter != 'L' {
-        return Err(Fault::script(Refusal::OutOfOrder));
-    }
-    let [width, high, low, rest @ ..] = operands else {
-        return Err(Fault::script(Refusal::ScriptEnds));
-    };
-    let size = Number { high, low };
-    Ok((Plan { width, size }, rest))
 }

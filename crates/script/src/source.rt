@@ -6,7 +6,7 @@ ghost use Rattle.script.specs.Blocks.{block_in, lent_of};
 use tray::fault::{Fault, Refusal};
 
 // The bytes themselves, or the number of an entry of the sheet. The sheet is a list of blocks, one behind the other.
-#[derive(Clone, Copy)]
+#[derive(Clone, Copy, PartialEq, Eq, Debug)]
 pub enum Source<'a> {
     Script(&'a [u8]),
     Sheet(&'a u8),
@@ -21,12 +21,10 @@ impl<'a> Source<'a> {
             Source::Script(block) => Ok(block),
             Source::Sheet(entry) => {
                 let size = size as usize;
-                let start = *entry as usize * size;
-                let end = start + size;
-                if end > sheet.len() {
-                    return Err(Fault::script(Refusal::NoSuchEntry));
-                }
-                Ok(&sheet[start..end])
+                let start = usize::from(*entry) * size;
+                sheet
+                    .get(start..start + size)
+                    .ok_or(Fault::script(Refusal::NoSuchEntry))
             }
         }
     }
