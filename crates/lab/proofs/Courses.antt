@@ -18,9 +18,9 @@ use Rattle.shelf.specs.Rebuilding.{reads_of}
 use Rattle.shelf.proofs.Pulling.{pull_kept}
 use Rattle.script.specs.Commands.{Operation, layout, pull, rebuild, sweep, get, put, drill, switch, fill}
 use Rattle.lab.specs.declared.answer.Answer.{Answer}
-use Rattle.lab.specs.declared.answer.Answer.TheVariants.{Found}
+use Rattle.lab.specs.declared.answer.Answer.TheVariants.{Done, Block, Count, Found}
 use Rattle.lab.specs.Labs.{Held}
-use Rattle.lab.specs.Obeying.{judging, Obeyed, Does, PutOn, Filled, none, more}
+use Rattle.lab.specs.Obeying.{judging, Obeyed, Does, Shows, PutOn, Filled, none, more}
 use Rattle.lab.specs.Courses.{Past, bytes_or, setting, last_set, Course, opened, obeyed, Truthful, LawOfScripts}
 
 -- a shelf at the end of a run whose last puts are these
@@ -87,6 +87,20 @@ filled_on {D} r m c x _ m₂ sized (more {n} {m₁} before d sized₂) h =
     let p = filled_on r m c x n m₁ sized before h in
     (sized₂, relabel r m₂ (λ i j il. one_more i j n c x (D i j)) (put_on r m₁ m₂ c n x p.0 d p.1))
 
+-- ---- what an answer shows
+
+shown : (answer : Answer) {P : List ℕ → Type 0} → Shows answer P → (block : List ℕ) × P block
+shown Done d = absurd d
+shown (Block block) d = (block.now, d)
+shown (Count n) d = absurd d
+shown (Found place) d = absurd d
+
+shows_so : (answer : Answer) {P Q : List ℕ → Type 0} → ((block : List ℕ) → P block → Q block) → Shows answer P → Shows answer Q
+shows_so Done so d = d
+shows_so (Block block) so d = so block.now d
+shows_so (Count n) so d = d
+shows_so (Found place) so d = d
+
 -- ---- one command
 
 -- the same roster, and the same tray
@@ -105,32 +119,34 @@ module _ (sheet : List ℕ) (past : Past) (s s' : Held) (sized : Sized s.tray) (
       → Stands (last_set sheet s'.roster.size ((x, true) ∷ past)) s'.roster s'.tray
   after x r e d = with_roster (λ size. last_set sheet size ((x, true) ∷ past)) r s'.roster s'.tray e (relabel r s'.tray (λ i j il. refl) d)
 
-  accepted_on : (x : Operation) (w : ℕ) (answer : Answer) (block : List ℕ) → judging sheet s x w ≡ Ok tt → Does sheet s x answer block s'
+  accepted_on : (x : Operation) (w : ℕ) (answer : Answer) → judging sheet s x w ≡ Ok tt → Does sheet s x answer s'
       → Stands (last_set sheet s'.roster.size ((x, true) ∷ past)) s'.roster s'.tray
-  accepted_on (layout k n) w answer block j d = absurd d
-  accepted_on (pull c) w answer block j d =
+  accepted_on (layout k n) w answer j d = absurd d
+  accepted_on (pull c) w answer j d =
       after (pull c) (taken_out s.roster c) d.1 (with_tray (taken_out s.roster c) s.tray s'.tray d.2 (pulled_on s.roster s.tray c j h))
-  accepted_on (rebuild c) w answer block j d =
+  accepted_on (rebuild c) w answer j d =
       let r = s.roster in
       let n = reads_of r.width r.missing in
       let done = subst (λ t. Rebuilt r.width (published r.width) r.size (out_of r) s.tray c n (out_of t) s'.tray) d.1 d.2 in
       after (rebuild c) (back_in r c) d.1 (rebuilt_on r s.tray s'.tray c n sized done h)
-  accepted_on sweep w answer block j d =
+  accepted_on sweep w answer j d =
       after sweep s.roster d.2 (quiet s.roster s.tray s'.tray sized d.3.calm.frame.shape d.3.calm.block h)
-  accepted_on (get c i) w answer block j d =
-      after (get c i) s.roster d.1 (quiet s.roster s.tray s'.tray sized d.2.calm.frame.shape d.2.calm.block h)
-  accepted_on (put c i x) w answer block j d =
+  accepted_on (get c i) w answer j d =
+      let got = shown answer d.1 in
+      after (get c i) s.roster d.0 (quiet s.roster s.tray s'.tray sized got.1.calm.frame.shape got.1.calm.block h)
+  accepted_on (put c i x) w answer j d =
       let bytes = d.2.0 in
       after (put c i x) s.roster d.1
       (relabel s.roster s'.tray (λ a b al. ap (λ v. cond (eqb a i && eqb b c) (bytes_or v) (last_set sheet s.roster.size past a b)) (sym d.2.1))
       (put_on s.roster s.tray s'.tray c i bytes sized d.2.2 h))
-  accepted_on (drill e c i) w answer block j d =
-      after (drill e c i) s.roster d.1 (quiet s.roster s.tray s'.tray sized d.2.calm.frame.shape d.2.calm.block h)
-  accepted_on (switch c flag) w answer block j d =
+  accepted_on (drill e c i) w answer j d =
+      let got = shown answer d.1 in
+      after (drill e c i) s.roster d.0 (quiet s.roster s.tray s'.tray sized got.1.calm.frame.shape got.1.calm.block h)
+  accepted_on (switch c flag) w answer j d =
       after (switch c flag) s.roster d.1
       (with_tray s.roster (switched s.tray c (not (eqb flag 0))) s'.tray d.2
       (quiet s.roster s.tray (switched s.tray c (not (eqb flag 0))) sized (record { wide = refl; tall = refl; deep = refl }) refl h))
-  accepted_on (fill c byte) w answer block j d =
+  accepted_on (fill c byte) w answer j d =
       let r = s.roster in
       let x = replicate r.size byte in
       after (fill c byte) r d.1
@@ -138,25 +154,25 @@ module _ (sheet : List ℕ) (past : Past) (s s' : Held) (sized : Sized s.tray) (
       (filled_on r s.tray c x (rows r.width) s'.tray sized d.2 h).1)
 
   -- a refused command changes nothing
-  told_on : (x : Operation) (work block work' : List ℕ) (told : Result Answer Fault) → Obeyed sheet s x work told block work' s'
+  told_on : (x : Operation) (work work' : List ℕ) (told : Result Answer Fault) → Obeyed sheet s x work told work' s'
       → Stands (last_set sheet s'.roster.size ((x, is_ok told) ∷ past)) s'.roster s'.tray
-  told_on x work block work' (Ok answer) o = accepted_on x (length work) answer block (sym o.value) o.done
-  told_on x work block work' (Err f) o =
+  told_on x work work' (Ok answer) o = accepted_on x (length work) answer (sym o.value) o.done
+  told_on x work work' (Err f) o =
       subst (λ t. Stands (last_set sheet t.roster.size ((x, false) ∷ past)) t.roster t.tray) (sym o.done) (relabel s.roster s.tray (λ i j il. refl) h)
 
   -- the shelf keeps its width and its size
-  same_plan : (x : Operation) (work block work' : List ℕ) (told : Result Answer Fault) → Obeyed sheet s x work told block work' s'
+  same_plan : (x : Operation) (work work' : List ℕ) (told : Result Answer Fault) → Obeyed sheet s x work told work' s'
       → (s'.roster.width ≡ s.roster.width) × (s'.roster.size ≡ s.roster.size)
-  same_plan x work block work' (Err f) o = (ap (λ t. t.roster.width) o.done, ap (λ t. t.roster.size) o.done)
-  same_plan (layout k n) work block work' (Ok answer) o = absurd o.done
-  same_plan (pull c) work block work' (Ok answer) o = (ap (λ r. r.width) o.done.1, ap (λ r. r.size) o.done.1)
-  same_plan (rebuild c) work block work' (Ok answer) o = (ap (λ r. r.width) o.done.1, ap (λ r. r.size) o.done.1)
-  same_plan sweep work block work' (Ok answer) o = (ap (λ r. r.width) o.done.2, ap (λ r. r.size) o.done.2)
-  same_plan (get c i) work block work' (Ok answer) o = (ap (λ r. r.width) o.done.1, ap (λ r. r.size) o.done.1)
-  same_plan (put c i x) work block work' (Ok answer) o = (ap (λ r. r.width) o.done.1, ap (λ r. r.size) o.done.1)
-  same_plan (drill e c i) work block work' (Ok answer) o = (ap (λ r. r.width) o.done.1, ap (λ r. r.size) o.done.1)
-  same_plan (switch c flag) work block work' (Ok answer) o = (ap (λ r. r.width) o.done.1, ap (λ r. r.size) o.done.1)
-  same_plan (fill c byte) work block work' (Ok answer) o = (ap (λ r. r.width) o.done.1, ap (λ r. r.size) o.done.1)
+  same_plan x work work' (Err f) o = (ap (λ t. t.roster.width) o.done, ap (λ t. t.roster.size) o.done)
+  same_plan (layout k n) work work' (Ok answer) o = absurd o.done
+  same_plan (pull c) work work' (Ok answer) o = (ap (λ r. r.width) o.done.1, ap (λ r. r.size) o.done.1)
+  same_plan (rebuild c) work work' (Ok answer) o = (ap (λ r. r.width) o.done.1, ap (λ r. r.size) o.done.1)
+  same_plan sweep work work' (Ok answer) o = (ap (λ r. r.width) o.done.2, ap (λ r. r.size) o.done.2)
+  same_plan (get c i) work work' (Ok answer) o = (ap (λ r. r.width) o.done.0, ap (λ r. r.size) o.done.0)
+  same_plan (put c i x) work work' (Ok answer) o = (ap (λ r. r.width) o.done.1, ap (λ r. r.size) o.done.1)
+  same_plan (drill e c i) work work' (Ok answer) o = (ap (λ r. r.width) o.done.0, ap (λ r. r.size) o.done.0)
+  same_plan (switch c flag) work work' (Ok answer) o = (ap (λ r. r.width) o.done.1, ap (λ r. r.size) o.done.1)
+  same_plan (fill c byte) work work' (Ok answer) o = (ap (λ r. r.width) o.done.1, ap (λ r. r.size) o.done.1)
 
 -- ---- any number of commands
 
@@ -169,14 +185,14 @@ record Came (sheet : List ℕ) (k size : ℕ) (past : Past) (s : Held) : Type 0 
 came : (sheet : List ℕ) (k size : ℕ) (past : Past) (s : Held) → Course sheet k size past s → Came sheet k size past s
 came sheet k size _ _ (opened {m} {m'} d sized) =
     record { width = refl; deep = refl; sized = sized; stands = relabel (full_roster k size) m' (λ i j il. refl) (opened_on k size m m' d) }
-came sheet k size _ s' (obeyed {past} {s} {x} {work} {block} {work'} {told} before o sized') =
+came sheet k size _ s' (obeyed {past} {s} {x} {work} {work'} {told} before o sized') =
     let p = came sheet k size past s before in
-    let kept = same_plan sheet past s s' p.sized p.stands x work block work' told o in
+    let kept = same_plan sheet past s s' p.sized p.stands x work work' told o in
     record {
       width = kept.0 ∙ p.width;
       deep = kept.1 ∙ p.deep;
       sized = sized';
-      stands = told_on sheet past s s' p.sized p.stands x work block work' told o;
+      stands = told_on sheet past s s' p.sized p.stands x work work' told o;
     }
 
 -- ---- the law
@@ -194,14 +210,15 @@ module _ (sheet : List ℕ) (past : Past) (s : Held) (width : is_width s.roster.
       let law = law_of_shelves r.width r.size width in
       let here = shelf_on r s.tray sized in
       record {
-        gets = λ c i work block work' answer s' o.
-            law.gets h.made between here (h.run sized) c i block s'.tray o.done.2 ∙ h.same i c o.done.2.row;
-        drills = λ d c i work block work' answer s' o.
+        gets = λ c i work work' answer s' o.
+            shows_so answer (λ block got. law.gets h.made between here (h.run sized) c i block s'.tray got ∙ h.same i c got.row) o.done.1;
+        drills = λ d c i work work' answer s' o.
             let took = started (pulling r d) (reaching (taken_out r d) s.tray c i r.size (length work)) o.value in
             let out = shelf_on (taken_out r d) s.tray sized in
+            shows_so answer (λ block got.
             law.gets h.made (inside (out_of r) (taken d) []) out
-            (starts {s = here} {s' = out} (h.run sized) (pull_kept r (taken_out r d) d (Ok tt) took refl) refl) c i block s'.tray o.done.2 ∙ h.same i c o.done.2.row;
-        sweeps = λ work block work' answer s' o.
+            (starts {s = here} {s' = out} (h.run sized) (pull_kept r (taken_out r d) d (Ok tt) took refl) refl) c i block s'.tray got ∙ h.same i c got.row) o.done.1;
+        sweeps = λ work work' answer s' o.
             o.done.1 ∙ ap Found (law.sweeps h.made here (h.run sized) o.done.0 s'.tray o.done.3);
       }
 

@@ -1,36 +1,36 @@
 -- A block put in every row of a column: where the first put is accepted, the others are accepted too.
-use Rattle.std.proofs.Common.{◌≡◌, ℕ, ◌<◌, List, length, Ok, Result, ap, ◌∙◌, subst, arith}
-use Rattle.std.proofs.lemmas.Bool.Decides.{nat_tests}
-use Rattle.tray.specs.declared.fault.Fault.{Fault}
-use Rattle.tray.specs.Meaning.{Meaning}
+use Rattle.std.proofs.Common.{◌≡◌, ℕ, ◌+◌, ◌<◌, List, length, Ok, sym, ◌∙◌}
+use Rattle.tray.specs.Meaning.{Meaning, Sized}
 use Rattle.code.specs.Code.{rows}
 use Rattle.law.specs.Holding.{SameFrame}
 use Rattle.shelf.specs.Rosters.{Rostered}
 use Rattle.shelf.specs.Checks.{reaching}
-use Rattle.shelf.specs.Promises.{PutsOn}
 use Rattle.shelf.proofs.Checked.{reached}
-use Rattle.lab.specs.Obeying.{PutOn}
-
--- the other rows of the column are reached too
-pub row_reached : (r : Rostered) (m : Meaning) (c i j n w : ℕ) → reaching r m c i n w ≡ Ok tt → j < rows r.width → reaching r m c j n w ≡ Ok tt
-row_reached r m c i j n w e h = grind (arith, nat_tests)
+use Rattle.lab.specs.Obeying.{PutOn, Filled, none, more}
 
 -- a put leaves what the checks look at
-pub still_reached : (r : Rostered) (m m' : Meaning) (c i n w : ℕ) → SameFrame m m' → reaching r m c i n w ≡ Ok tt → reaching r m' c i n w ≡ Ok tt
+still_reached : (r : Rostered) (m m' : Meaning) (c i n w : ℕ) → SameFrame m m' → reaching r m c i n w ≡ Ok tt → reaching r m' c i n w ≡ Ok tt
 still_reached r m m' c i n w f e = simp (f.shape.wide, f.shape.tall, f.shape.deep, f.answers) e
 
--- one row more
-module _ (r : Rostered) (m m' : Meaning) (c i : ℕ) (x : List ℕ) (w : ℕ) (answer : Result (Unit {0}) Fault)
-    (open_row : reaching r m c 0 (length x) w ≡ Ok tt) (within : i < rows r.width) (value : answer ≡ reaching r m c i (length x) w) (done : PutsOn r m c i x answer m') where
-  pub put_more : PutOn r m c i x m'
-  put_more = subst (λ a. PutsOn r m c i x a m') (value ∙ row_reached r m c 0 i (length x) w open_row within) done
+-- the block stands in the rows below n, by which the tray came from m to m', and row 0 is reached still
+pub record Filling (r : Rostered) (c : ℕ) (x : List ℕ) (w : ℕ) (m : Meaning) (n : ℕ) (m' : Meaning) : Type 0 where
+  pub reached : reaching r m' c 0 (length x) w ≡ Ok tt
+  pub filled : Filled r c x m n m'
 
-  pub put_still : (w' : ℕ) → w' ≡ w → reaching r m' c 0 (length x) w' ≡ Ok tt
-  put_still w' e = ap (reaching r m' c 0 (length x)) e ∙ still_reached r m m' c 0 (length x) w put_more.frame open_row
+-- one row more
+pub fill_more : {r : Rostered} {c w n : ℕ} {x : List ℕ} {m m₁ m₂ : Meaning} → Filling r c x w m n m₁ → PutOn r m₁ c n x m₂ → Sized m₂ → Filling r c x w m (n + 1) m₂
+fill_more {r} {c} {w} {x = x} {m₁ = m₁} {m₂ = m₂} f d sized =
+    record { reached = still_reached r m₁ m₂ c 0 (length x) w d.frame f.reached; filled = more f.filled d sized }
+
+-- row 0, where the put was accepted
+pub fill_first : {r : Rostered} {c w : ℕ} {x : List ℕ} {m m₁ : Meaning} → Ok tt ≡ reaching r m c 0 (length x) w → PutOn r m c 0 x m₁ → Sized m₁ → Filling r c x w m 1 m₁
+fill_first accepted d sized = fill_more (record { reached = sym accepted; filled = none }) d sized
 
 -- the rows of the tray are those of the shelf, and there is one
-pub rows_reached : (r : Rostered) (m : Meaning) (c n w : ℕ) → reaching r m c 0 n w ≡ Ok tt → m.rows ≡ rows r.width
-rows_reached r m c n w e = (reached r m c 0 n w e).sound.shape.tall
-
-pub row_some : (r : Rostered) (m : Meaning) (c n w : ℕ) → reaching r m c 0 n w ≡ Ok tt → 0 < rows r.width
-row_some r m c n w e = (reached r m c 0 n w e).row
+pub rows_of_tray : (r : Rostered) (w : ℕ) {c : ℕ} {x : List ℕ} {m m₁ : Meaning} → Ok tt ≡ reaching r m c 0 (length x) w → PutOn r m c 0 x m₁
+    → (m₁.rows ≡ rows r.width) × (0 < rows r.width)
+rows_of_tray r w {c} {x} {m} accepted d =
+    let checked = reached r m c 0 (length x) w (sym accepted) in (
+      d.frame.shape.tall ∙ checked.sound.shape.tall,
+      checked.row,
+    )

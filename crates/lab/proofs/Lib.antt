@@ -1,6 +1,5 @@
-pub mod Writing
+pub mod Pushing
 pub mod Filling
 pub mod Obeying
-pub mod Running
 pub mod Courses
 pub mod Transcripts

@@ -11,7 +11,7 @@ use Rattle.script.specs.Blocks.{block_in}
 use Rattle.lab.specs.declared.answer.Answer.{Answer}
 use Rattle.lab.specs.declared.answer.Answer.TheVariants.{Found}
 use Rattle.lab.specs.Labs.{Held}
-use Rattle.lab.specs.Obeying.{Obeyed}
+use Rattle.lab.specs.Obeying.{Shows, Obeyed}
 
 -- the commands of a script behind its layout, and whether each was accepted; the latest stands first
 abbrev pub Past : Type 0
@@ -42,16 +42,16 @@ last_set sheet size (x ∷ past) i j = cond x.1 (setting sheet size x.0 (last_se
 -- a shelf that was laid out, and on which these commands were obeyed
 pub data Course (sheet : List ℕ) (k size : ℕ) : Past → Held → Type 0 where
   opened : {m m' : Meaning} → Laid k size m m' → Sized m' → Course sheet k size [] (record { roster = full_roster k size; tray = m' })
-  obeyed : {past : Past} {s s' : Held} {x : Operation} {work block work' : List ℕ} {told : Result Answer Fault}
-      → Course sheet k size past s → Obeyed sheet s x work told block work' s' → Sized s'.tray → Course sheet k size ((x, is_ok told) ∷ past) s'
+  obeyed : {past : Past} {s s' : Held} {x : Operation} {work work' : List ℕ} {told : Result Answer Fault}
+      → Course sheet k size past s → Obeyed sheet s x work told work' s' → Sized s'.tray → Course sheet k size ((x, is_ok told) ∷ past) s'
 
 pub record Truthful (sheet : List ℕ) (k size : ℕ) (past : Past) (s : Held) : Type 0 where
   -- every accepted G shows the block last put to its place,
-  pub gets : (c i : ℕ) (work block work' : List ℕ) (answer : Answer) (s' : Held) → Obeyed sheet s (get c i) work (Ok answer) block work' s' → block ≡ last_set sheet size past i c
+  pub gets : (c i : ℕ) (work work' : List ℕ) (answer : Answer) (s' : Held) → Obeyed sheet s (get c i) work (Ok answer) work' s' → Shows answer (λ block. block ≡ last_set sheet size past i c)
   -- and so does every accepted D;
-  pub drills : (d c i : ℕ) (work block work' : List ℕ) (answer : Answer) (s' : Held) → Obeyed sheet s (drill d c i) work (Ok answer) block work' s' → block ≡ last_set sheet size past i c
+  pub drills : (d c i : ℕ) (work work' : List ℕ) (answer : Answer) (s' : Held) → Obeyed sheet s (drill d c i) work (Ok answer) work' s' → Shows answer (λ block. block ≡ last_set sheet size past i c)
   -- every accepted S says clean.
-  pub sweeps : (work block work' : List ℕ) (answer : Answer) (s' : Held) → Obeyed sheet s sweep work (Ok answer) block work' s' → answer ≡ Found None
+  pub sweeps : (work work' : List ℕ) (answer : Answer) (s' : Held) → Obeyed sheet s sweep work (Ok answer) work' s' → answer ≡ Found None
 
 abbrev pub LawOfScripts : Type 0
 LawOfScripts = (sheet : List ℕ) (k size : ℕ) (past : Past) (s : Held) → is_width k ≡ true → Course sheet k size past s → Truthful sheet k size past s

@@ -1,6 +1,7 @@
 -- The lines that commands print.
-use Rattle.std.specs.Prelude.{◌≡◌, ℕ, ◌+◌, ◌/◌, ◌%◌, cond, List, [], ◌∷◌, ◌++◌, length, take, drop, Some, None, Ok, Err, codes, Option, Result, nat_lt}
+use Rattle.std.specs.Prelude.{ℕ, cond, List, [], ◌∷◌, ◌++◌, length, drop, Some, None, Ok, Err, codes, Option, Result}
 pub use Rattle.std.specs.Fmt.{decimal}
+use Rattle.hex.specs.Hex.{encode_lower}
 use Rattle.tray.specs.declared.fault.Layer.{Layer}
 use Rattle.tray.specs.declared.fault.Layer.TheVariants as layer
 use Rattle.tray.specs.declared.fault.Fault.{Fault}
@@ -10,15 +11,6 @@ use Rattle.lab.specs.declared.answer.Answer.{Answer}
 use Rattle.lab.specs.declared.answer.Answer.TheVariants.{Done, Block, Count, Found}
 
 -- ---- bytes, numbers and names as text
-
--- a digit of a byte in hexadecimal, in lowercase
-abbrev pub hex_digit : ℕ → ℕ
-hex_digit n = cond (nat_lt n 10) (48 + n) (87 + n)
-
--- two digits for each byte
-abbrev pub hex : List ℕ → List ℕ
-hex [] = []
-hex (b ∷ bytes) = hex_digit (b / 16) ∷ (hex_digit (b % 16) ∷ hex bytes)
 
 -- `-` for an absent number
 abbrev pub number_or : Option ℕ → List ℕ
@@ -40,27 +32,30 @@ place_text column row = number_or column ++ (codes " " ++ number_or row)
 abbrev pub fault_text : Fault → List ℕ
 fault_text f = codes "no " ++ (decimal (number_of f.refusal) ++ (codes " " ++ (layer_text f.layer ++ (codes " " ++ (number_or f.column ++ (codes " " ++ number_or f.row))))))
 
--- what an accepted command tells; `block` is the block that it got, if it got one
-abbrev pub answer_text : Answer → List ℕ → List ℕ
-answer_text Done block = codes "ok"
-answer_text Block block = hex block
-answer_text (Count n) block = decimal n
-answer_text (Found None) block = codes "clean"
-answer_text (Found (Some place)) block = decimal place.0 ++ (codes " " ++ decimal place.1)
+-- the block that a get shows; of any other command none
+abbrev pub shown_block : Answer → List ℕ
+shown_block Done = []
+shown_block (Block block) = block.now
+shown_block (Count n) = []
+shown_block (Found place) = []
 
-abbrev pub told_text : Result Answer Fault → List ℕ → List ℕ
-told_text (Ok answer) block = answer_text answer block
-told_text (Err f) block = fault_text f
+-- what an accepted command tells
+abbrev pub answer_text : Answer → List ℕ
+answer_text Done = codes "ok"
+answer_text (Block block) = encode_lower block.now
+answer_text (Count n) = decimal n
+answer_text (Found None) = codes "clean"
+answer_text (Found (Some place)) = decimal place.0 ++ (codes " " ++ decimal place.1)
+
+abbrev pub told_text : Result Answer Fault → List ℕ
+told_text (Ok answer) = answer_text answer
+told_text (Err f) = fault_text f
 
 -- a line: the letter, or `?` for an unknown one, a space, what is told, and the line's end
-abbrev pub line_text : ℕ → Result Answer Fault → List ℕ → List ℕ
-line_text letter told block = cond (is_letter letter) letter 63 ∷ (codes " " ++ (told_text told block ++ (10 ∷ [])))
+abbrev pub line_text : ℕ → Result Answer Fault → List ℕ
+line_text letter told = cond (is_letter letter) letter 63 ∷ (codes " " ++ (told_text told ++ (10 ∷ [])))
 
 -- ---- lines in a buffer
-
--- a text was written into a buffer at a place, and nothing else changed
-abbrev pub Wrote : List ℕ → ℕ → List ℕ → List ℕ → Type 0
-Wrote was at text after = after ≡ take at was ++ (text ++ drop (at + length text) was)
 
 -- a text at the front of a buffer
 abbrev pub onto : List ℕ → List ℕ → List ℕ

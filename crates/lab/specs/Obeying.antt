@@ -47,28 +47,35 @@ pub data Filled (r : Rostered) (c : ℕ) (x : List ℕ) (m : Meaning) : ℕ → 
   none : Filled r c x m 0 m
   more : {n : ℕ} {m₁ m₂ : Meaning} → Filled r c x m n m₁ → PutOn r m₁ c n x m₂ → Sized m₂ → Filled r c x m (n + 1) m₂
 
--- s is what the lab held before, and s' after; `block` is what a get shows
-abbrev pub Does : List ℕ → Held → Operation → Answer → List ℕ → Held → Type 0
-Does sheet s (layout k size) answer block s' = ⊥
-Does sheet s (pull c) answer block s' = (answer ≡ Done) × (s'.roster ≡ taken_out s.roster c) × (s'.tray ≡ s.tray)
-Does sheet s (rebuild c) answer block s' =
+-- the answer is a block, of which P holds
+abbrev pub Shows : Answer → (List ℕ → Type 0) → Type 0
+Shows Done P = ⊥
+Shows (Block block) P = P block.now
+Shows (Count n) P = ⊥
+Shows (Found place) P = ⊥
+
+-- s is what the lab held before, and s' after
+abbrev pub Does : List ℕ → Held → Operation → Answer → Held → Type 0
+Does sheet s (layout k size) answer s' = ⊥
+Does sheet s (pull c) answer s' = (answer ≡ Done) × (s'.roster ≡ taken_out s.roster c) × (s'.tray ≡ s.tray)
+Does sheet s (rebuild c) answer s' =
     (answer ≡ Count (reads_of s.roster.width s.roster.missing)) × (s'.roster ≡ back_in s.roster c)
     × Rebuilt s.roster.width (published s.roster.width) s.roster.size (out_of s.roster) s.tray c (reads_of s.roster.width s.roster.missing) (out_of s'.roster) s'.tray
-Does sheet s sweep answer block s' =
+Does sheet s sweep answer s' =
     (found : Option (ℕ × ℕ)) × (answer ≡ Found found) × (s'.roster ≡ s.roster)
     × Swept s.roster.width (published s.roster.width) s.roster.size (out_of s.roster) s.tray found s'.tray
-Does sheet s (get c i) answer block s' = (answer ≡ Block) × (s'.roster ≡ s.roster) × GotOn s.roster s.tray c i block s'.tray
-Does sheet s (put c i x) answer block s' =
+Does sheet s (get c i) answer s' = (s'.roster ≡ s.roster) × Shows answer (λ block. GotOn s.roster s.tray c i block s'.tray)
+Does sheet s (put c i x) answer s' =
     (answer ≡ Done) × (s'.roster ≡ s.roster)
     × ((bytes : List ℕ) × (block_in x sheet s.roster.size ≡ Ok bytes) × PutOn s.roster s.tray c i bytes s'.tray)
-Does sheet s (drill d c i) answer block s' = (answer ≡ Block) × (s'.roster ≡ s.roster) × GotOn (taken_out s.roster d) s.tray c i block s'.tray
-Does sheet s (switch c flag) answer block s' = (answer ≡ Done) × (s'.roster ≡ s.roster) × (s'.tray ≡ switched s.tray c (not (flag == 0)))
-Does sheet s (fill c byte) answer block s' =
+Does sheet s (drill d c i) answer s' = (s'.roster ≡ s.roster) × Shows answer (λ block. GotOn (taken_out s.roster d) s.tray c i block s'.tray)
+Does sheet s (switch c flag) answer s' = (answer ≡ Done) × (s'.roster ≡ s.roster) × (s'.tray ≡ switched s.tray c (not (flag == 0)))
+Does sheet s (fill c byte) answer s' =
     (answer ≡ Done) × (s'.roster ≡ s.roster) × Filled s.roster c (replicate s.roster.size byte) s.tray (rows s.roster.width) s'.tray
 
 -- ---- a command, accepted or refused: a refused one changes nothing, and leaves the work space as it was
 
-pub record Obeyed (sheet : List ℕ) (s : Held) (x : Operation) (work : List ℕ) (told : Result Answer Fault) (block work' : List ℕ) (s' : Held) : Type 0 where
+pub record Obeyed (sheet : List ℕ) (s : Held) (x : Operation) (work : List ℕ) (told : Result Answer Fault) (work' : List ℕ) (s' : Held) : Type 0 where
   pub value : verdict_of told ≡ judging sheet s x (length work)
-  pub done : MatchResult told (λ answer. Does sheet s x answer block s') (λ _. s' ≡ s)
+  pub done : MatchResult told (λ answer. Does sheet s x answer s') (λ _. s' ≡ s)
   pub spared : IfErr told (λ _. work' ≡ work)

@@ -1,5 +1,6 @@
 -- What one command of a script does, and the line that tells of it.
 use Rattle.std.specs.Prelude.{◌≡◌, ℕ, ◌+◌, cond, List, [], ◌∷◌, length, Ok, Err, Result, MatchResult, nat_le}
+use Rattle.std.specs.Borrow.{Bor}
 use Rattle.tray.specs.declared.fault.Refusal.TheVariants as refusal
 use Rattle.tray.specs.declared.fault.Fault.{Fault}
 use Rattle.tray.specs.Refusals.{script_fault}
@@ -22,9 +23,9 @@ abbrev pub line_checked : ℕ → Result (Unit {0}) Fault
 line_checked n = cond (nat_le 1040 n) (Ok tt) (Err (script_fault refusal.ShortLine))
 
 -- a line of n bytes at the front of the line buffer
-pub record Told (letter : ℕ) (told : Result Answer Fault) (block line : List ℕ) (n : ℕ) (line' : List ℕ) : Type 0 where
-  pub many : n ≡ length (line_text letter told block)
-  pub text : line' ≡ onto (line_text letter told block) line
+pub record Told (letter : ℕ) (told : Result Answer Fault) (line : List ℕ) (n : ℕ) (line' : List ℕ) : Type 0 where
+  pub many : n ≡ length (line_text letter told)
+  pub text : line' ≡ onto (line_text letter told) line
 
 -- ---- the first command
 
@@ -43,9 +44,14 @@ goes_on (Ok _) next = next
 goes_on (Err _) next = []
 
 -- an accepted layout is just told
-abbrev pub done : Result (Unit {0}) Fault → Result Answer Fault
+abbrev pub done : {X : Type 0} → Result X Fault → Result Answer Fault
 done (Ok _) = Ok Done
 done (Err f) = Err f
+
+-- the script behind an accepted layout, which is none where it was refused
+abbrev pub behind : Result (Bor (List ℕ)) Fault → List ℕ
+behind (Ok rest) = rest.now
+behind (Err f) = []
 
 pub record Opens (cells : List ℕ) (k size : ℕ) (next : List ℕ) (answer : Result Answer Fault) (rest : List ℕ) (s' : Standing) : Type 0 where
   pub laying : Result (Unit {0}) Fault
@@ -61,15 +67,9 @@ Begun cells (Err f) answer rest s' = (answer ≡ Err f) × (rest ≡ []) × (s' 
 
 -- a command that was read is obeyed, and the script goes on behind it; one that cannot be read changes nothing, and the
 -- script ends
-abbrev pub Turned : List ℕ → Held → Read → List ℕ → Result Answer Fault → List ℕ → List ℕ → List ℕ → Held → Type 0
-Turned sheet s (Ok next) work told rest block work' s' = Obeyed sheet s next.0 work told block work' s' × (rest ≡ next.1)
-Turned sheet s (Err f) work told rest block work' s' = (told ≡ Err f) × (rest ≡ []) × (work' ≡ work) × (s' ≡ s)
-
-pub record Ran (sheet : List ℕ) (s : Held) (letter : ℕ) (operands work line : List ℕ) (n : ℕ) (rest work' line' : List ℕ) (s' : Held) : Type 0 where
-  pub answer : Result Answer Fault
-  pub block : List ℕ
-  pub turned : Turned sheet s (reading letter operands s.roster.size) work answer rest block work' s'
-  pub told : Told letter answer block line n line'
+abbrev pub Turned : List ℕ → Held → Read → List ℕ → Result Answer Fault → List ℕ → List ℕ → Held → Type 0
+Turned sheet s (Ok next) work told rest work' s' = Obeyed sheet s next.0 work told work' s' × (rest ≡ next.1)
+Turned sheet s (Err f) work told rest work' s' = (told ≡ Err f) × (rest ≡ []) × (work' ≡ work) × (s' ≡ s)
 
 -- ---- any command
 
@@ -81,9 +81,17 @@ pub record Idle (work line : List ℕ) (s : Standing) (n : ℕ) (rest work' line
   pub same_work : work' ≡ work
   pub same_line : line' ≡ line
 
+-- the command that stands behind a letter
+abbrev pub Turns : List ℕ → Standing → ℕ → List ℕ → List ℕ → Result Answer Fault → List ℕ → List ℕ → Standing → Type 0
+Turns sheet (bare cells) letter operands work told rest work' s' = Begun cells (reading_first letter operands) told rest s' × (work' ≡ work)
+Turns sheet (laid s) letter operands work told rest work' s' =
+    (after : Held) × (s' ≡ laid after) × Turned sheet s (reading letter operands s.roster.size) work told rest work' after
+
+pub record Ran (sheet : List ℕ) (s : Standing) (letter : ℕ) (operands work line : List ℕ) (n : ℕ) (rest work' line' : List ℕ) (s' : Standing) : Type 0 where
+  pub answer : Result Answer Fault
+  pub turns : Turns sheet s letter operands work answer rest work' s'
+  pub told : Told letter answer line n line'
+
 abbrev pub Runs : List ℕ → Standing → List ℕ → List ℕ → List ℕ → ℕ → List ℕ → List ℕ → List ℕ → Standing → Type 0
 Runs sheet s [] work line n rest work' line' s' = Idle work line s n rest work' line' s'
-Runs sheet (bare cells) (letter ∷ operands) work line n rest work' line' s' =
-    (answer : Result Answer Fault) × Begun cells (reading_first letter operands) answer rest s' × Told letter answer [] line n line' × (work' ≡ work)
-Runs sheet (laid s) (letter ∷ operands) work line n rest work' line' s' =
-    (after : Held) × (s' ≡ laid after) × Ran sheet s letter operands work line n rest work' line' after
+Runs sheet s (letter ∷ operands) work line n rest work' line' s' = Ran sheet s letter operands work line n rest work' line' s'

@@ -1,10 +1,10 @@
 // What an accepted command answers.
 
-// A block that was got lies in a buffer of its own. A sweep finds the first parity place that does not fit, or none.
-#[derive(Clone, Copy)]
-pub enum Answer {
+// The block is the one that was got. A sweep finds the first parity place that does not fit, or none.
+#[derive(Clone, Copy, PartialEq, Eq, Debug)]
+pub enum Answer<'b> {
     Done,
-    Block,
+    Block(&'b [u8]),
     Count(u32),
     Found(Option<(u32, u32)>),
 }

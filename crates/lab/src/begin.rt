@@ -1,10 +1,9 @@
 // The first command of a script, which lays the shelf out.
 ghost use Rattle.std.specs.Prelude.{◌≡◌, None};
 ghost use Rattle.lab.specs.Labs.{standing};
-ghost use Rattle.lab.specs.Running.{LaysOut, Begun};
+ghost use Rattle.lab.specs.Running.{LaysOut, Begun, done, behind};
 ghost use Rattle.script.specs.Reading.{reading_first};
 
-use crate::answer::Answer;
 use crate::shelf_lab::Lab;
 use code::widths::{is_width, rows_of};
 use script::reader::read_first;
@@ -21,26 +20,17 @@ impl Lab<'_> {
         if is_width(width) {
             self.tray.renew(Shape::new(width + 2, rows_of(width), size));
         }
-        let roster = Roster::layout(&mut self.tray, width, size)?;
-        self.roster = Some(roster);
+        self.roster = Some(Roster::layout(&mut self.tray, width, size)?);
         Ok(())
     }
 
-    // Lays the shelf out that the first command asks for. The script goes on behind it, and ends where it is refused.
-    pub(crate) fn begin<'s>(
-        &mut self,
-        letter: char,
-        operands: &'s [u8],
-    ) -> (Result<Answer, Fault>, &'s [u8])
+    // Lays the shelf out that the first command asks for, and answers the script behind it.
+    pub(crate) fn begin<'s>(&mut self, letter: char, operands: &'s [u8]) -> Result<&'s [u8], Fault>
         requires { self.old.roster ≡ None }
-        ensures { Begun self.old.tray.cells.now (reading_first letter operands.now) result.0 result.1.now (standing self.new) }
+        ensures { Begun self.old.tray.cells.now (reading_first letter operands.now) (done result) (behind result) (standing self.new) }
     {
-        match read_first(letter, operands) {
-            Ok((plan, rest)) => match self.lay_out(u32::from(*plan.width), plan.size.value()) {
-                Ok(()) => (Ok(Answer::Done), rest),
-                Err(fault) => (Err(fault), &[]),
-            },
-            Err(fault) => (Err(fault), &[]),
-        }
+        let (plan, rest) = read_first(letter, operands)?;
+        self.lay_out(u32::from(*plan.width), plan.size.value())?;
+        Ok(rest)
     }
 }

@@ -1,8 +1,9 @@
 // What a lab does with a command.
-ghost use Rattle.std.specs.Prelude.{◌≡◌, length};
+ghost use Rattle.std.specs.Prelude.{◌≡◌, ◌≤◌, length, IfOk};
 ghost use Rattle.script.specs.Commands.{operation_of};
 ghost use Rattle.shelf.specs.Rosters.{roster_of};
 ghost use Rattle.lab.specs.Labs.{held};
+ghost use Rattle.lab.specs.Lines.{shown_block};
 ghost use Rattle.lab.specs.Obeying.{Obeyed};
 
 use crate::answer::Answer;
@@ -12,17 +13,18 @@ use shelf::roster::Roster;
 use tray::fault::{Fault, Refusal};
 use tray::flat::Flat;
 
-// Makes the call that a command names. A get fills the block.
-pub(crate) fn obey(
+// Makes the call that a command names. What a get shows is the block, which it filled.
+pub(crate) fn obey<'b>(
     roster: &mut Roster,
     tray: &mut Flat<'_>,
     command: Command<'_>,
     sheet: &[u8],
-    block: &mut [u8],
+    block: &'b mut [u8],
     work: &mut [u8],
-) -> Result<Answer, Fault>
+) -> Result<Answer<'b>, Fault>
     requires { length block.old ≡ (roster_of roster.old).size }
-    ensures { Obeyed sheet.now (held roster.old tray.old) (operation_of command.entry) work.old result block.new work.new (held roster.new tray.new) }
+    ensures done { Obeyed sheet.now (held roster.old tray.old) (operation_of command.entry) work.old result work.new (held roster.new tray.new) }
+    ensures short { IfOk result (λ answer. length (shown_block answer) ≤ (roster_of roster.old).size) }
 {
     match command {
         Command::Layout(_) => Err(Fault::script(Refusal::OutOfOrder)),
@@ -39,21 +41,21 @@ pub(crate) fn obey(
             Ok(Answer::Found(found))
         }
         Command::Get(place) => {
-            let (column, row) = (u32::from(*place.column), place.row.value());
+            let (column, row) = place.numbers();
             roster.get(tray, column, row, block, work)?;
-            Ok(Answer::Block)
+            Ok(Answer::Block(block))
         }
         Command::Put(place, source) => {
-            let (column, row) = (u32::from(*place.column), place.row.value());
+            let (column, row) = place.numbers();
             let block = source.block(sheet, roster.size())?;
             roster.put(tray, column, row, block, work)?;
             Ok(Answer::Done)
         }
         Command::Drill { drilled, place } => {
-            let (column, row) = (u32::from(*place.column), place.row.value());
+            let (column, row) = place.numbers();
             let drilled = u32::from(*drilled);
             roster.rehearse(tray, drilled, column, row, block, work)?;
-            Ok(Answer::Block)
+            Ok(Answer::Block(block))
         }
         Command::Switch { column, flag } => {
             tray.switch(u32::from(*column), *flag != 0)?;

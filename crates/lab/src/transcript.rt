@@ -24,47 +24,7 @@ pub const WORK: usize = 2 * MEMORY / 5;
 fn front(bytes: &[u8], most: usize) -> &[u8]
     ensures { result.now ≡ take most bytes.now }
 {
-    &bytes[0..bytes.len().min(most)]
-}
-
-// Runs the command that a script goes on with, adds its line to the lines, and answers what is left of the script. The
-// line buffer is long enough, so the lab takes the call.
-fn play_on<'s>(
-    lab: &mut Lab<'_>,
-    script: &'s [u8],
-    sheet: &[u8],
-    work: &mut [u8],
-    line: &mut [u8],
-    lines: &mut Vec<u8>,
-) -> Result<&'s [u8], AllocError>
-    requires { 1040 ≤ length line.old }
-    ensures { IfOk result (λ rest. (text : List ℕ) × Tells (length work.old) sheet.now (standing lab.old) script.now text rest.now (standing lab.new) × (lines.new.items ≡ lines.old.items ++ text)) }
-{
-    let Ok(step) = lab.run(script, sheet, work, line) else {
-        unreachable()
-    };
-    lines.extend_from_slice(&line[0..step.len])?;
-    Ok(step.rest)
-}
-
-// Runs all the commands of a script, and answers their lines.
-fn play(
-    heap: Global,
-    lab: &mut Lab<'_>,
-    script: &[u8],
-    sheet: &[u8],
-    work: &mut [u8],
-    line: &mut [u8],
-) -> Result<Vec<u8>, AllocError>
-    requires { 1040 ≤ length line.old }
-    ensures { IfOk result (λ lines. Transcript (length work.old) sheet.now (standing lab.old) script.now lines.items) }
-{
-    let mut lines = Vec::new(heap);
-    let mut rest = script;
-    while !rest.is_empty() {
-        rest = play_on(lab, rest, sheet, work, line, &mut lines)?;
-    }
-    Ok(lines)
+    bytes.get(..most).unwrap_or(bytes)
 }
 
 // Runs the front of a script on a new lab, with the front of a sheet, and answers the lines of its commands. Want of
@@ -72,11 +32,20 @@ fn play(
 pub fn transcript(heap: Global, script: &[u8], sheet: &[u8]) -> Result<Vec<u8>, AllocError>
     ensures { IfOk result (λ lines. (cells : List ℕ) × (length cells ≡ 32768) × Transcript 13107 (take 4096 sheet.now) (bare cells) (take 16384 script.now) lines.items) }
 {
-    let script = front(script, MOST_SCRIPT);
     let sheet = front(sheet, MOST_SHEET);
+    let mut rest = front(script, MOST_SCRIPT);
     let mut memory = vec![in heap; 0u8; MEMORY]?;
     let mut work = vec![in heap; 0u8; WORK]?;
     let mut line = vec![in heap; 0u8; LEAST_LINE]?;
-    let mut lab = Lab::new(&mut memory[..]);
-    play(heap, &mut lab, script, sheet, &mut work[..], &mut line[..])
+    let mut lab = Lab::new(&mut memory);
+    let mut lines = Vec::new(heap);
+    while !rest.is_empty() {
+        // the line buffer is long enough, so the lab takes the call
+        let Ok(step) = lab.run(rest, sheet, &mut work, &mut line) else {
+            unreachable()
+        };
+        lines.extend_from_slice(&line[..step.len])?;
+        rest = step.rest;
+    }
+    Ok(lines)
 }
