@@ -13,10 +13,8 @@ mod tests {
         let mut line = [7u8; LEAST_LINE - 1];
         let mut lab = Lab::new(&mut memory);
         let script = b"L\x03\x00\x01";
-        match lab.run(script, b"", &mut [], &mut line) {
-            Ok(_) => return Err(Fail::new("a short line buffer was taken")),
-            Err(fault) => assert_eq!(rt; fault, Fault::script(Refusal::ShortLine)),
-        }
+        let told = lab.run(script, b"", &mut [], &mut line);
+        assert_eq!(rt; told, Err(Fault::script(Refusal::ShortLine)));
         assert_eq!(rt; line[0], 7);
         assert!(rt; lab.roster.is_none());
         Ok(())

@@ -24,7 +24,7 @@ mod tests {
         ];
         for (script, lines) in cases {
             let told = transcript(rt.alloc(), script, b"")?;
-            assert!(rt; told.as_slice() == lines);
+            assert_eq!(rt; told.as_slice(), lines);
         }
         Ok(())
     }
@@ -35,13 +35,19 @@ mod tests {
         let mut script = Vec::new(rt.alloc());
         script.extend_from_slice(b"L\x03\x00\x11Q\x00\x00\x00\xefQ\x00\x00\x00\xf0")?;
         let sheet = vec![in rt.alloc(); 9u8; 5000]?;
-        let told = transcript(rt.alloc(), script.as_slice(), sheet.as_slice())?;
-        assert!(rt; told.as_slice() == b"L ok\nQ ok\nQ no 8 script - -\n".as_slice());
+        let told = transcript(rt.alloc(), &script, &sheet)?;
+        assert_eq!(rt;
+            told.as_slice(),
+            b"L ok\nQ ok\nQ no 8 script - -\n".as_slice()
+        );
         let sweeps = vec![in rt.alloc(); b'S'; 20000]?;
         script.truncate(4);
-        script.extend_from_slice(sweeps.as_slice())?;
-        let told = transcript(rt.alloc(), script.as_slice(), sheet.as_slice())?;
-        assert!(rt; told.len() == b"L ok\n".len() + (16384 - 4) * b"S clean\n".len());
+        script.extend_from_slice(&sweeps)?;
+        let told = transcript(rt.alloc(), &script, &sheet)?;
+        assert_eq!(rt;
+            told.len(),
+            b"L ok\n".len() + (16384 - 4) * b"S clean\n".len()
+        );
         Ok(())
     }
 }

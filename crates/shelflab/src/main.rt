@@ -12,17 +12,14 @@ fn main(rt: HostRuntime) -> anyhow::Result<()> {
         .take(MOST_SCRIPT as u64)
         .read_to_end(&mut script)?;
     let mut sheet = Vec::new(rt.alloc());
-    if let Ok(file) = File::open(&rt, "sheet.bin") {
-        // a sheet that cannot be read counts as missing
-        if file
-            .take(MOST_SHEET as u64)
-            .read_to_end(&mut sheet)
-            .is_err()
-        {
-            sheet.clear();
-        }
+    let read = File::open(&rt, "sheet.bin").and_then(|file| file
+        .take(MOST_SHEET as u64)
+        .read_to_end(&mut sheet));
+    // a sheet that is missing or cannot be read is empty
+    if read.is_err() {
+        sheet.clear();
     }
-    let lines = transcript(rt.alloc(), script.as_slice(), sheet.as_slice())?;
-    rt.stdout().write_all(lines.as_slice())?;
+    let lines = transcript(rt.alloc(), &script, &sheet)?;
+    rt.stdout().write_all(&lines)?;
     Ok(())
 }
