@@ -1,7 +1,6 @@
 // The line that tells of a command: its letter, a space, and what was answered or why it was refused.
-ghost use Rattle.std.specs.Prelude.{◌≡◌, ◌*◌, ◌≤◌, length, IfOk, if◌then◌else◌};
+ghost use Rattle.std.specs.Prelude.{◌≡◌, ◌*◌, ◌≤◌, length, IfOk};
 ghost use Rattle.hex.specs.Hex.{encode_lower};
-ghost use Rattle.script.specs.Letters.{is_letter};
 ghost use Rattle.lab.specs.Lines.{decimal, number_or, layer_text, place_text, fault_text, shown_block, answer_text, told_text, line_text, onto};
 ghost use Rattle.lab.specs.Pushes.{HasRoom, Pushes};
 
@@ -119,17 +118,6 @@ impl Line<'_> {
     }
 }
 
-// The letter as a line shows it: `?` for one that names no command.
-fn shown(letter: char) -> u8
-    ensures { result ≡ (if is_letter letter then letter else 63) }
-{
-    if is_letter(letter) {
-        letter as u8
-    } else {
-        b'?'
-    }
-}
-
 // Writes the line that tells of a command, and answers its length.
 pub(crate) fn write_line(buffer: &mut [u8], letter: char, told: Result<Answer<'_>, Fault>) -> usize
     requires room { LEAST_LINE ≤ length buffer.old }
@@ -138,7 +126,13 @@ pub(crate) fn write_line(buffer: &mut [u8], letter: char, told: Result<Answer<'_
     ensures line { buffer.new ≡ onto (line_text letter told.entry) buffer.old }
 {
     let mut line = Line { buffer, len: 0 };
-    line.push(&[shown(letter), b' ']);
+    // an unknown letter is shown as `?`
+    let shown = if is_letter(letter) {
+        letter as u8
+    } else {
+        b'?'
+    };
+    line.push(&[shown, b' ']);
     line.push_told(told);
     line.push(b"\n");
     line.len
