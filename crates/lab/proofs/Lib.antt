@@ -1,4 +1,5 @@
 pub mod Pushing
+pub mod Running
 pub mod Filling
 pub mod Obeying
 pub mod Courses

@@ -7,7 +7,7 @@ ghost use Rattle.lab.specs.Pushes.{HasRoom, Pushes};
 use crate::answer::Answer;
 use crate::run::LEAST_LINE;
 use script::reader::is_letter;
-use shelf::roster::parts::MOST_SIZE;
+use shelf::roster::MOST_SIZE;
 use tray::fault::{Fault, Layer};
 
 // A line being written. Its text so far stands at the front of the caller's buffer.

@@ -10,7 +10,7 @@ use crate::line::write_line;
 use crate::obey::obey;
 use crate::shelf_lab::Lab;
 use script::reader::{read, split_letter};
-use shelf::roster::parts::MOST_SIZE;
+use shelf::roster::MOST_SIZE;
 use tray::fault::{Fault, Refusal};
 
 // The least bytes of a line buffer: the longest line has a little less.

@@ -1,4 +1,5 @@
 use Rattle.std.proofs.Common.{◌≡◌, ◌++◌, take, sym, refl, ap, ◌∙◌, arith, length-take-le, rules}
+use Rattle.std.proofs.lemmas.Bool.Decides.{nat_tests}
 use Rattle.std.proofs.lemmas.List.{take_at}
 use Rattle.lab.proofs.Transcripts.{one_more, taken, played, runs_less, runs_within}
 use Rattle.lab.proofs.transcript.transcript.Goals as goal
@@ -16,12 +17,17 @@ slice_bounds-extend_from_slice-end c =
     sym (length-take-le c.in-Ok.step.len c.deref.result.now (rw same within))
 
 pub loop-sheet-smaller : goal.loop-sheet-smaller
-loop-sheet-smaller c = runs_less _ _ _ _ _ _ _ _ _ _ (search rules) c.in-Ok.ensures.done
+loop-sheet-smaller c =
+    let empty = c.is_empty.ensures in
+    let more = c.loop-sheet-test.true in
+    runs_less _ _ _ _ _ _ _ _ _ _ (grind (arith, nat_tests)) c.in-Ok.ensures.done
 
 pub loop-sheet-preserved : goal.loop-sheet-preserved
 loop-sheet-preserved c =
     let same : c.deref.result.now ≡ c.run.new.line = c.deref.ensures.value ∙ take_at c.run.new.line _ _ (omega arith) in
-    one_more c.loop-sheet.invariant (search rules) (record {
+    let empty = c.is_empty.ensures in
+    let more = c.loop-sheet-test.true in
+    one_more c.loop-sheet.invariant (grind (arith, nat_tests)) (record {
       work = c.deref_mut-in-loop-sheet.result.now;
       work' = c.run.new.work;
       buffer = c.deref_mut-in-loop-sheet-2.result.now;
