@@ -1,15 +1,8 @@
-use Rattle.std.proofs.Common.{length, arith}
+use Rattle.std.proofs.Common.{length}
 use Rattle.code.specs.Neighbours.{published}
-use Rattle.code.proofs.Limits.{a_width}
 use Rattle.shelf.specs.Missing.{is_out}
 use Rattle.shelf.proofs.Gathering.{gathered_reads, gathered_sums}
 use Rattle.shelf.proofs.gather.gather.Goals as goal
-
-pub overflow_add-k : goal.overflow_add-k
-overflow_add-k g c = let w = a_width c.args.k.number c.args.k.valid in omega arith
-
-pub overflow_add-k-2 : goal.overflow_add-k-2
-overflow_add-k-2 g c = let w = a_width c.args.k.number c.args.k.valid in omega arith
 
 pub returns : goal.returns
 returns g c =

@@ -1,11 +1,8 @@
-use Rattle.std.proofs.Common.{length, get_or, subst, arith}
+use Rattle.std.proofs.Common.{length, get_or, subst}
 use Rattle.shelf.specs.Regaining.{BytesAdded}
 use Rattle.shelf.proofs.OneBlock.{one_slot}
 use Rattle.shelf.proofs.Changing.{added_back}
 use Rattle.shelf.proofs.parities.add_at.Goals as goal
-
-pub add-requires : goal.add-requires
-add-requires g c = omega arith
 
 pub returns : goal.returns
 returns g c =

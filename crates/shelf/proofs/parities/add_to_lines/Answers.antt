@@ -1,7 +1,7 @@
-use Rattle.std.proofs.Common.{◌≡◌, ◌+◌, length, ◌∙◌, arith}
+use Rattle.std.proofs.Common.{◌≡◌, ◌+◌, length, arith}
 use Rattle.code.specs.Neighbours.{published}
 use Rattle.shelf.specs.Parities.{line_by, lines_below, line_places}
-use Rattle.shelf.proofs.Changing.{added_none, added_same, added_added, answers_still, below_none, below_more, below_apart, below_all}
+use Rattle.shelf.proofs.Changing.{added_none, added_same, added_added, below_none, below_more, below_apart, below_all}
 use Rattle.shelf.proofs.parities.add_to_lines.Goals as goal
 
 pub loop-through-init : goal.loop-through-init
@@ -9,10 +9,6 @@ loop-through-init g c =
     let k = c.args.k.number in
     added_none (length c.args.block.now) (g.T.Tray.meaning c.args.tray.now) c.args.block.now (lines_below k (published k) c.args.row.0 c.args.column 0)
     (below_none k (published k) c.args.row.0 c.args.column)
-
-pub add_to_line-requires : goal.add_to_line-requires
-add_to_line-requires g c =
-    let k = c.args.k.number in record { answers = answers_still k (length c.args.block.now) (k + 1) (g.T.Tray.meaning c.args.tray.now) (g.T.Tray.meaning c.loop-through.tray) c.loop-through.invariant.frame c.requires.answers; row = c.requires.row; through = c.loop-through-test.true; scratch = c.loop-through.auto.scratch ∙ c.requires.scratch }
 
 pub loop-through-preserved : goal.loop-through-preserved
 loop-through-preserved g c =

@@ -4,27 +4,10 @@ use Rattle.code.specs.Neighbours.{published}
 use Rattle.law.specs.Service.{removed}
 use Rattle.law.specs.Calls.{Rebuilt}
 use Rattle.shelf.specs.Missing.{is_out}
-use Rattle.shelf.specs.Reading.{Answers}
-use Rattle.shelf.specs.Slots.{Room}
 use Rattle.shelf.specs.Rebuilding.{slot_of, slot_block, written}
 use Rattle.shelf.proofs.Adding.{room_kept}
-use Rattle.shelf.proofs.Refilling.{located_data, located_answers, located_count, refilled}
+use Rattle.shelf.proofs.Refilling.{located_count, refilled}
 use Rattle.shelf.proofs.rebuild.refill.Goals as goal
-
-pub write_column-requires : goal.write_column-requires
-write_column-requires g c =
-    let m = g.T.Tray.meaning c.args.tray.now in
-    let m₁ = g.T.Tray.meaning c.locate-found.new.tray in
-    let k = c.args.k.number in
-    let size = length c.args.block.now in
-    let out = c.args.out in
-    let work = c.locate-found.new.work in
-    let j = c.args.column in
-    let found = c.locate-found.result in
-    let width = c.args.k.valid in
-    let cols = c.requires.columns in
-    let o = c.requires.missing in
-    let same = sym c.locate-found.auto.block in record { room = subst (λ (n : ℕ). Room k n work) same (room_kept k size c.args.work.now work c.requires.room c.locate-found.auto.work); answers = subst (λ (n : ℕ). Answers k n m₁ j) same (located_answers k size width out cols m m₁ work j o c.requires.heard c.requires.answers found c.locate-found.ensures); column = located_data k size width out cols m m₁ work j o found c.locate-found.ensures }
 
 pub returns : goal.returns
 returns g c =

@@ -6,9 +6,6 @@ use Rattle.shelf.specs.Slots.{SlotAdded}
 use Rattle.shelf.proofs.OneBlock.{calm_refl, calm_read, one_slot, bytes_none}
 use Rattle.shelf.proofs.regain.add_if.Goals as goal
 
-pub add-requires : goal.add-requires
-add-requires g c = omega arith
-
 pub returns-then-wanted : goal.returns-then-wanted
 returns-then-wanted g c =
     let m = g.T.Tray.meaning c.args.tray.now in

@@ -1,4 +1,4 @@
-use Rattle.std.proofs.Common.{◌≡◌, ℕ, ◌+◌, ◌*◌, ◌≤◌, cond, not, eqb, ◌≢◌, length, get_or, sym, refl, ap, ◌∙◌, subst, arith}
+use Rattle.std.proofs.Common.{◌≡◌, ℕ, cond, not, eqb, ◌≢◌, length, get_or, sym, ap, ◌∙◌, subst, arith}
 use lib.Bits.{xor_zero_r}
 use borrow.Author.Tests.{eq-true, ne_false}
 use Rattle.code.specs.Numbers.{only}
@@ -10,24 +10,10 @@ use Rattle.law.specs.Holding.{held}
 use Rattle.shelf.specs.Slots.{Plus, nothing, to_lines}
 use Rattle.shelf.specs.Reading.{after_reads, times}
 use Rattle.shelf.specs.Regaining.{lines_but, unless}
-use Rattle.shelf.proofs.Adding.{has_slot, plus_none, plus_row, plus_same, plus_plus}
+use Rattle.shelf.proofs.Adding.{plus_none, plus_row, plus_same, plus_plus}
 use Rattle.shelf.proofs.Gathering.{column_none}
-use Rattle.shelf.proofs.Regaining.{may_read, room_still, read_one, to_lines_but, but_none}
+use Rattle.shelf.proofs.Regaining.{read_one, to_lines_but, but_none}
 use Rattle.shelf.proofs.regain.add_other.Goals as goal
-
-pub fetch-requires : goal.fetch-requires
-fetch-requires g c =
-    may_read c.args.k.number _ _ c.args.lost c.requires.alone c.args.column c.args.row.0 _ (omega arith) (omega arith) c.requires.row refl
-
-pub add-requires : goal.add-requires
-add-requires g c =
-    let e : length c.args.block.now ≡ length c.fetch.new.block = omega arith in
-    subst (λ s. (c.args.row.0 + 1) * s ≤ length c.args.work.now) e
-    (has_slot c.args.k.number (length c.args.block.now) c.args.work.now c.requires.room c.args.row.0 (omega arith))
-
-pub add_to_lines-requires : goal.add_to_lines-requires
-add_to_lines-requires g c =
-    record { room = room_still c.args.k.number (length c.args.block.now) _ c.args.work.now _ (omega arith) (omega arith) c.requires.room; row = c.requires.row }
 
 pub returns-then-column-lost : goal.returns-then-column-lost
 returns-then-column-lost g c =

@@ -3,25 +3,9 @@ use lib.Bits.{bit_xor}
 use Rattle.code.specs.Numbers.{only, xorsum}
 use Rattle.law.specs.Holding.{held, Calm}
 use Rattle.law.specs.Hand.{others, by_row}
-use Rattle.shelf.proofs.Regaining.{may_read, others_next}
-use Rattle.shelf.proofs.OneBlock.{calm_refl, calm_read, calm_then, calm_held, may_read_calm, is_other, bytes_none, bytes_more, bytes_all, bytes_calm}
+use Rattle.shelf.proofs.Regaining.{others_next}
+use Rattle.shelf.proofs.OneBlock.{calm_refl, calm_read, calm_then, calm_held, bytes_none, bytes_more, bytes_all, bytes_calm}
 use Rattle.shelf.proofs.regain.regain_by_row.Goals as goal
-
-pub fetch-requires : goal.fetch-requires
-fetch-requires g c =
-    let k = c.args.k.number in
-    let jk = c.requires.alone.column in
-    may_read k _ _ c.args.lost c.requires.alone k c.args.row.0 _ (omega arith) (omega arith) c.requires.row refl
-
-pub add_if-requires : goal.add_if-requires
-add_if-requires g c =
-    let m = g.T.Tray.meaning c.args.tray.now in
-    let m' = g.T.Tray.meaning c.loop-column.tray in
-    let k = c.args.k.number in
-    let j = c.args.lost in
-    let t = c.loop-column.column in
-    let calm : Calm m m' = calm_then m _ m' (calm_read m _ k c.fetch.ensures.tray) c.loop-column.invariant.0 in
-    record { ready = λ w. may_read_calm k _ m m' j calm c.requires.alone t c.args.row.0 _ (omega arith) (is_other t j w) c.requires.row (omega arith); scratch = omega arith }
 
 pub loop-column-init : goal.loop-column-init
 unfolding others xorsum

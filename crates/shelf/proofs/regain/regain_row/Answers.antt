@@ -1,4 +1,4 @@
-use Rattle.std.proofs.Common.{◌≡◌, eqb, length, refl, ◌∙◌, subst, arith}
+use Rattle.std.proofs.Common.{◌≡◌, eqb, length, ◌∙◌, subst, arith}
 use Rattle.code.specs.Numbers.{only}
 use Rattle.code.specs.Neighbours.{published}
 use Rattle.code.proofs.Limits.{law_of_width}
@@ -7,23 +7,8 @@ use Rattle.law.specs.Hand.{others}
 use Rattle.shelf.specs.Slots.{Plus, IsSlot, nothing, to_lines}
 use Rattle.shelf.specs.Reading.{times}
 use Rattle.shelf.specs.Regaining.{once_below, row_of, below, lines_but}
-use Rattle.shelf.proofs.Adding.{has_slot}
-use Rattle.shelf.proofs.Regaining.{may_read, room_still, read_one, reads_after, row_reads, row_found}
+use Rattle.shelf.proofs.Regaining.{read_one, reads_after, row_reads, row_found}
 use Rattle.shelf.proofs.regain.regain_row.Goals as goal
-
-pub fetch_slot-requires : goal.fetch_slot-requires
-fetch_slot-requires g c =
-    let k = c.args.k.number in
-    let i = c.args.row.0 in
-    let jk = c.requires.alone.column in
-    record { ready = may_read k _ _ c.args.lost c.requires.alone k i _ (omega arith) (omega arith) c.requires.row refl; within = has_slot k _ _ c.requires.room i (omega arith) }
-
-pub copy_slot-requires : goal.copy_slot-requires
-copy_slot-requires g c =
-    let k = c.args.k.number in
-    let i = c.args.row.0 in
-    has_slot k (length c.add_others.new.block) c.add_others.new.work
-    (room_still k (length c.args.block.now) _ c.args.work.now _ (omega arith) (omega arith) c.requires.room) i (omega arith)
 
 pub returns : goal.returns
 returns g c =

@@ -3,7 +3,7 @@ use Rattle.code.specs.Code.{rows, meets}
 use Rattle.code.specs.Neighbours.{published}
 use Rattle.code.proofs.Limits.{a_width}
 use Rattle.code.proofs.Rows.{meets_lt}
-use Rattle.shelf.proofs.Adding.{has_slot, has_slot_for}
+use Rattle.shelf.proofs.Adding.{has_slot}
 use Rattle.shelf.proofs.Spreading.{settled}
 use Rattle.shelf.proofs.solve.settle.Goals as goal
 
@@ -14,10 +14,6 @@ copy_slot-requires c =
     let here : c.line.result.0 ≡ meets c.args.row.0 c.args.p = c.line.ensures.within (omega arith) in
     let l = meets_lt k c.args.row.0 c.args.p c.requires.row c.requires.p in
     has_slot k (length c.args.block.now) c.args.work.now c.requires.room c.line_slot.result (omega arith)
-
-pub add-requires : goal.add-requires
-add-requires c =
-    has_slot_for c.args.k.number (length c.args.block.now) (length c.copy_slot.new.block) c.args.work.now c.requires.room (omega arith) c.args.row.0 (omega arith)
 
 pub returns : goal.returns
 returns c =

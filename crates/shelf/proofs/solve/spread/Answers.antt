@@ -2,18 +2,11 @@ use Rattle.std.proofs.Common.{◌≡◌, length, arith}
 use Rattle.code.specs.Code.{rows}
 use Rattle.code.specs.Neighbours.{published}
 use Rattle.code.proofs.Limits.{law_of_width}
-use Rattle.shelf.proofs.Adding.{has_slot_for, room_kept}
 use Rattle.shelf.proofs.Spreading.{spread_none, spread_more, spread_all}
 use Rattle.shelf.proofs.solve.spread.Goals as goal
 
 pub loop-row-init : goal.loop-row-init
 loop-row-init c = spread_none c.args.k.number (published c.args.k.number) (law_of_width _ c.args.k.valid) (length c.args.block.now) c.args.work.now c.args.column c.requires.column
-
-pub copy_slot-requires : goal.copy_slot-requires
-copy_slot-requires c =
-    let e = c.rows-row-end.ensures.value in
-    has_slot_for c.args.k.number (length c.args.block.now) (length c.loop-row.block) c.loop-row.work (room_kept _ _ _ _ c.requires.room c.loop-row.auto.work)
-    c.loop-row.auto.block c.loop-row.row (omega arith)
 
 pub loop-row-preserved : goal.loop-row-preserved
 loop-row-preserved c =

@@ -1,15 +1,12 @@
-use Rattle.std.proofs.Common.{eqb, length, get_or, ◌∙◌, arith}
+use Rattle.std.proofs.Common.{eqb, length, get_or, ◌∙◌}
 use lib.Bits.{xor_zero_r}
 use Rattle.code.specs.Numbers.{only}
 use Rattle.code.specs.Neighbours.{published}
 use Rattle.code.proofs.Limits.{law_of_width}
 use Rattle.shelf.specs.Slots.{nothing, to_lines}
-use Rattle.shelf.proofs.Adding.{has_slot, plus_row, plus_plus, plus_same}
+use Rattle.shelf.proofs.Adding.{plus_row, plus_plus, plus_same}
 use Rattle.shelf.proofs.Holding.{row_of_one, lines_of_one}
 use Rattle.shelf.proofs.sums.add_place.Goals as goal
-
-pub add-requires : goal.add-requires
-add-requires c = has_slot c.args.k.number _ _ c.requires.room c.args.row.0 (omega arith)
 
 pub returns : goal.returns
 returns c =

@@ -1,7 +1,7 @@
 use Rattle.std.proofs.Common.{◌≡◌, ◌+◌, length, sym, refl, arith}
 use Rattle.code.specs.Neighbours.{published}
 use Rattle.shelf.specs.Slots.{nothing, passed, to_lines, to_skip}
-use Rattle.shelf.proofs.Adding.{plus_none, plus_same, plus_plus, room_kept}
+use Rattle.shelf.proofs.Adding.{plus_none, plus_same, plus_plus}
 use Rattle.shelf.proofs.Holding.{passed_none, passed_next, passed_all}
 use Rattle.shelf.proofs.sums.add_to_lines.Goals as goal
 
@@ -9,9 +9,6 @@ pub loop-through-init : goal.loop-through-init
 loop-through-init c =
     plus_same _ _ _ nothing nothing nothing (passed _ _ _ _ _ 0) _ (λ _ _ _ _. refl) (λ b n _ _. sym (passed_none (published c.args.k.number) c.args.row.0 c.args.column (to_skip c.args.k.number c.args.skip) c.args.block.now b n))
     (plus_none c.args.k.number (length c.args.block.now) c.args.work.now)
-
-pub add_through-requires : goal.add_through-requires
-add_through-requires c = record { room = room_kept _ _ _ _ c.requires.room c.loop-through.auto.work; row = c.requires.row; through = c.loop-through-test.true }
 
 pub loop-through-preserved : goal.loop-through-preserved
 loop-through-preserved c =

@@ -1,13 +1,9 @@
 use Rattle.std.proofs.Common.{◌≡◌, ℕ, ◌+◌, ◌*◌, length, get_or, sym, ◌∙◌, subst, add-mul, arith, below_more}
-use Rattle.code.proofs.Limits.{few_rows}
 use Rattle.shelf.specs.Sweeping.{Agrees}
 use Rattle.shelf.proofs.Adding.{has_slot_for}
 use Rattle.shelf.proofs.Frames.{calm_read}
 use Rattle.shelf.proofs.Sweeping.{place_ready, agreed, first_off}
 use Rattle.shelf.proofs.sweep.first_misfit.Goals as goal
-
-pub overflow_mul-slots : goal.overflow_mul-slots
-overflow_mul-slots g c = let few = few_rows c.args.k.number c.args.k.valid in let e = c.rows-slots.ensures.value in omega arith
 
 pub fetch-requires : goal.fetch-requires
 fetch-requires g c =
