@@ -1,21 +1,18 @@
 use Rattle.std.proofs.Common.{not, length, sym, ap, ◌∙◌, arith}
 use Rattle.code.specs.Neighbours.{published}
 use Rattle.code.proofs.Limits.{law_of_width}
-use Rattle.shelf.proofs.Adding.{room_kept_for}
 use Rattle.shelf.proofs.Recovered.{found_two, which_of, which_back, out_first, out_second}
 use Rattle.shelf.proofs.recover.find_data.Goals as goal
 
-pub solve-requires-else-is_right : goal.solve-requires-else-is_right
-solve-requires-else-is_right c =
+pub solve-requires-else-is_right-clause-pair : goal.solve-requires-else-is_right-clause-pair
+solve-requires-else-is_right-clause-pair c =
     let k = c.args.k.number in
-    let law = law_of_width k c.args.k.valid in record {
-      room = room_kept_for _ _ _ _ _ c.requires.room (omega arith) (omega arith);
-      pair = record {
-        first = c.requires.b;
-        second = omega arith;
-        apart = λ e. c.requires.apart (sym e);
-        neighbour = λ _. law.one_way c.args.a c.args.b c.requires.a c.requires.b c.requires.apart ∙ ap not (sym c.is_right.ensures ∙ c.if-is_right.false);
-      };
+    let law = law_of_width k c.args.k.valid in
+    record {
+      first = c.requires.b;
+      second = omega arith;
+      apart = λ e. c.requires.apart (sym e);
+      neighbour = λ _. law.one_way c.args.a c.args.b c.requires.a c.requires.b c.requires.apart ∙ ap not (sym c.is_right.ensures ∙ c.if-is_right.false);
     }
 
 pub returns-then-is_right : goal.returns-then-is_right

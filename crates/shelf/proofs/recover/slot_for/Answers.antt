@@ -4,8 +4,9 @@ use Rattle.code.proofs.Rows.{meets_lt}
 use Rattle.shelf.proofs.Recovered.{by_rows, by_line, by_number}
 use Rattle.shelf.proofs.recover.slot_for.Goals as goal
 
-pub returns-then-column-by : goal.returns-then-column-by
-returns-then-column-by c = record { value = sym (by_rows c.args.k.number c.args.by c.args.column c.args.row.0 c.if-column-by.true); within = omega arith }
+pub returns-then-column-by-clause-value : goal.returns-then-column-by-clause-value
+returns-then-column-by-clause-value c =
+    sym (by_rows c.args.k.number c.args.by c.args.column c.args.row.0 c.if-column-by.true)
 
 pub returns-then-column-k : goal.returns-then-column-k
 returns-then-column-k c =
@@ -17,10 +18,7 @@ returns-then-column-k c =
       within = omega arith;
     }
 
-pub returns-else-column-k : goal.returns-else-column-k
-returns-else-column-k c =
+pub returns-else-column-k-clause-value : goal.returns-else-column-k-clause-value
+returns-else-column-k-clause-value c =
     let r = c.rows.ensures.value in
-    record {
-      value = ap (λ x. x + c.args.row.0) r ∙ sym (by_number c.args.k.number c.args.by c.args.column c.args.row.0 c.if-column-by.false c.if-column-k.false);
-      within = omega arith;
-    }
+    ap (λ x. x + c.args.row.0) r ∙ sym (by_number c.args.k.number c.args.by c.args.column c.args.row.0 c.if-column-by.false c.if-column-k.false)

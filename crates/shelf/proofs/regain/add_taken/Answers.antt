@@ -22,8 +22,8 @@ loop-column-init g c =
     let m = g.T.Tray.meaning c.add_if.new.tray in
     (calm_refl m, bytes_none (length c.add_if.new.block) c.add_if.new.block (λ _. 0) (λ _. refl))
 
-pub add_if-requires-in-loop-column : goal.add_if-requires-in-loop-column
-add_if-requires-in-loop-column g c =
+pub add_if-requires-in-loop-column-clause-ready : goal.add_if-requires-in-loop-column-clause-ready
+add_if-requires-in-loop-column-clause-ready g c =
     let m = g.T.Tray.meaning c.args.tray.now in
     let m' = g.T.Tray.meaning c.loop-column.tray in
     let k = c.args.k.number in
@@ -31,7 +31,7 @@ add_if-requires-in-loop-column g c =
     let j = c.args.lost in
     let t = c.loop-column.column in
     let calm : Calm m m' = calm_then m _ m' c.add_if.ensures.tray c.loop-column.invariant.0 in
-    record { ready = λ w. may_read_calm k _ m m' j calm c.requires.alone t i _ (omega arith) (wants_other (published k) i c.args.through j t (sym c.is_wanted.ensures ∙ w)) c.requires.row (omega arith); scratch = omega arith }
+    λ w. may_read_calm k _ m m' j calm c.requires.alone t i _ (omega arith) (wants_other (published k) i c.args.through j t (sym c.is_wanted.ensures ∙ w)) c.requires.row (omega arith)
 
 pub loop-column-preserved : goal.loop-column-preserved
 loop-column-preserved g c =
@@ -50,8 +50,8 @@ loop-column-preserved g c =
           c.loop-column.auto.block c.add_if-in-loop-column.ensures.block),
     )
 
-pub returns : goal.returns
-returns g c =
+pub returns-clause-block : goal.returns-clause-block
+returns-clause-block g c =
     let m = g.T.Tray.meaning c.args.tray.now in
     let m' = g.T.Tray.meaning c.add_if.new.tray in
     let k = c.args.k.number in
@@ -63,13 +63,10 @@ returns g c =
     let calm : Calm m m' = c.add_if.ensures.tray in
     let e : c.loop-column.column ≡ k = omega arith in
     let e' : length c.add_if.new.block ≡ length was = omega arith in
-    record {
-      tray = calm_then m m' _ calm c.loop-column.invariant.0;
-      block = bytes_more (length was) was (λ b. only c.is_taken.result (held m b i k)) (λ b. xorsum k (λ c'. only (wants right i t j c') (held m b i c'))) (λ b. taken k right (held m b) j i t)
-          c.add_if.new.block c.loop-column.block
-          (λ b. ap (λ w. bit_xor (only w (held m b i k)) (xorsum k (λ c'. only (wants right i t j c') (held m b i c')))) c.is_taken.ensures
-          ∙ taken_wanted k right (law_of_width k c.args.k.valid) i t c.requires.through (held m b) j c.requires.alone.column)
-          c.add_if.ensures.block
-          (bytes_calm (λ h b. xorsum k (λ c'. only (wants right i t j c') (h b i c'))) m m' (length c.add_if.new.block) (length was) c.add_if.new.block c.loop-column.block calm e'
-          (rw e at c.loop-column.invariant.1));
-    }
+    bytes_more (length was) was (λ b. only c.is_taken.result (held m b i k)) (λ b. xorsum k (λ c'. only (wants right i t j c') (held m b i c'))) (λ b. taken k right (held m b) j i t)
+    c.add_if.new.block c.loop-column.block
+    (λ b. ap (λ w. bit_xor (only w (held m b i k)) (xorsum k (λ c'. only (wants right i t j c') (held m b i c')))) c.is_taken.ensures
+    ∙ taken_wanted k right (law_of_width k c.args.k.valid) i t c.requires.through (held m b) j c.requires.alone.column)
+    c.add_if.ensures.block
+    (bytes_calm (λ h b. xorsum k (λ c'. only (wants right i t j c') (h b i c'))) m m' (length c.add_if.new.block) (length was) c.add_if.new.block c.loop-column.block calm e'
+    (rw e at c.loop-column.invariant.1))

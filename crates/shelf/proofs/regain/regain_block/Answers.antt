@@ -9,8 +9,8 @@ use Rattle.law.specs.Hand.{others, by_row, by_line, regained}
 use Rattle.shelf.specs.Regaining.{taken}
 use Rattle.shelf.proofs.regain.regain_block.Goals as goal
 
-pub regain_by_line-requires : goal.regain_by_line-requires
-regain_by_line-requires g c =
+pub regain_by_line-requires-clause-line : goal.regain_by_line-requires-clause-line
+regain_by_line-requires-clause-line g c =
     let k = c.args.k.number in
     let j = c.args.column in
     let w = a_width k c.args.k.valid in
@@ -18,26 +18,23 @@ regain_by_line-requires g c =
     let e : c.line.result.0 ≡ meets c.args.row.0 j = c.line.ensures.within (omega arith) in
     let l = meets_lt k c.args.row.0 j c.requires.row jk in
     let l' : c.line.result.0 < rows k = omega arith in
-    record { alone = c.requires.alone; scratch = c.requires.scratch; line = l' }
+    l'
 
-pub returns-then-is_dark : goal.returns-then-is_dark
+pub returns-then-is_dark-clause-block : goal.returns-then-is_dark-clause-block
 unfolding regained
-returns-then-is_dark g c =
+returns-then-is_dark-clause-block g c =
     let m = g.T.Tray.meaning c.args.tray.now in
     let k = c.args.k.number in
     let i = c.args.row.0 in
     let j = c.args.column in
     record {
-      tray = c.regain_by_row.ensures.tray;
-      block = record {
-        long = c.regain_by_row.ensures.block.long;
-        each = λ b bl. c.regain_by_row.ensures.block.each b bl ∙ ap (λ d. cond d (by_row k (held m b) j i) (by_line k (published k) (held m b) j i)) c.if-is_dark.ensures;
-      };
+      long = c.regain_by_row.ensures.block.long;
+      each = λ b bl. c.regain_by_row.ensures.block.each b bl ∙ ap (λ d. cond d (by_row k (held m b) j i) (by_line k (published k) (held m b) j i)) c.if-is_dark.ensures;
     }
 
-pub returns-else-is_dark : goal.returns-else-is_dark
+pub returns-else-is_dark-clause-block : goal.returns-else-is_dark-clause-block
 unfolding regained by_line
-returns-else-is_dark g c =
+returns-else-is_dark-clause-block g c =
     let m = g.T.Tray.meaning c.args.tray.now in
     let k = c.args.k.number in
     let right = published k in
@@ -47,12 +44,9 @@ returns-else-is_dark g c =
     let jk = c.requires.alone.column in
     let e : c.line.result.0 ≡ meets i j = c.line.ensures.within (omega arith) in
     record {
-      tray = c.regain_by_line.ensures.tray;
-      block = record {
-        long = c.regain_by_line.ensures.block.long;
-        each = λ b bl.
-            c.regain_by_line.ensures.block.each b bl
-            ∙ ap (λ n. bit_xor (held m b n (k + 1)) (others k j (λ c'. taken k right (held m b) j (meets n c') c'))) e
-            ∙ ap (λ d. cond d (by_row k (held m b) j i) (by_line k right (held m b) j i)) c.if-is_dark.ensures;
-      };
+      long = c.regain_by_line.ensures.block.long;
+      each = λ b bl.
+          c.regain_by_line.ensures.block.each b bl
+          ∙ ap (λ n. bit_xor (held m b n (k + 1)) (others k j (λ c'. taken k right (held m b) j (meets n c') c'))) e
+          ∙ ap (λ d. cond d (by_row k (held m b) j i) (by_line k right (held m b) j i)) c.if-is_dark.ensures;
     }

@@ -28,9 +28,9 @@ loop-column-preserved g c =
           c.loop-column.auto.block c.add_if.ensures.block),
     )
 
-pub returns : goal.returns
+pub returns-clause-block : goal.returns-clause-block
 unfolding by_row
-returns g c =
+returns-clause-block g c =
     let m = g.T.Tray.meaning c.args.tray.now in
     let m' = g.T.Tray.meaning c.fetch.new.tray in
     let k = c.args.k.number in
@@ -40,10 +40,7 @@ returns g c =
     let e : c.loop-column.column ≡ k = omega arith in
     let e₁ : length c.fetch.new.block ≡ length c.args.block.now = omega arith in
     let e₂ : length c.loop-column.block ≡ length c.args.block.now = omega arith in
-    record {
-      tray = calm_then m m' _ calm c.loop-column.invariant.0;
-      block = bytes_all (length c.fetch.new.block) (length c.args.block.now) c.fetch.new.block c.loop-column.block
-          (λ b. others k j (held m' b i)) (λ b. by_row k (held m b) j i) e₁ e₂
-          (λ b. ap₂ bit_xor (ap (λ x. get_or x b 0) c.fetch.ensures.block) (ap (λ h. others k j (h b i)) (calm_held m m' calm)))
-          (rw e at c.loop-column.invariant.1);
-    }
+    bytes_all (length c.fetch.new.block) (length c.args.block.now) c.fetch.new.block c.loop-column.block
+    (λ b. others k j (held m' b i)) (λ b. by_row k (held m b) j i) e₁ e₂
+    (λ b. ap₂ bit_xor (ap (λ x. get_or x b 0) c.fetch.ensures.block) (ap (λ h. others k j (h b i)) (calm_held m m' calm)))
+    (rw e at c.loop-column.invariant.1)

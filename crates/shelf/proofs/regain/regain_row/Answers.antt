@@ -5,13 +5,12 @@ use Rattle.code.proofs.Limits.{law_of_width}
 use Rattle.law.specs.Holding.{held}
 use Rattle.law.specs.Hand.{others}
 use Rattle.shelf.specs.Slots.{Plus, IsSlot, nothing, to_lines}
-use Rattle.shelf.specs.Reading.{times}
-use Rattle.shelf.specs.Regaining.{once_below, row_of, below, lines_but}
-use Rattle.shelf.proofs.Regaining.{read_one, reads_after, row_reads, row_found}
+use Rattle.shelf.specs.Regaining.{row_of, below, lines_but}
+use Rattle.shelf.proofs.Regaining.{read_one, row_found}
 use Rattle.shelf.proofs.regain.regain_row.Goals as goal
 
-pub returns : goal.returns
-returns g c =
+pub returns-clause-work : goal.returns-clause-work
+returns-clause-work g c =
     let m = g.T.Tray.meaning c.args.tray.now in
     let m' = g.T.Tray.meaning c.fetch_slot.new.tray in
     let k = c.args.k.number in
@@ -27,10 +26,7 @@ returns g c =
     let e = c.fetch_slot.ensures.tray ∙ read_one m k (g.T.Tray.wraps c.args.tray.now) in
     let h : length c.add_others.new.block ≡ size = omega arith in
     let h' : length x ≡ size = omega arith in
-    record {
-      tray = reads_after m m' _ (times k 1) (once_below j k) _ e c.add_others.ensures.tray (λ c'. row_reads k j c' jk);
-      work = row_found k right (law_of_width k c.args.k.valid) size m i j jk c.requires.row c.args.work.now w₁ w₂ w₃ x c.fetch_slot.ensures.work
-          (subst (λ y. Plus k size w₁ (λ b r. only (eqb r i) (others k j (held y b i))) (λ b. lines_but k right i j (row_of i (below j k (held y b)))) w₂) e c.add_others.ensures.work)
-          (subst (λ s. IsSlot s w₂ i x) h c.copy_slot.ensures)
-          (subst (λ s. Plus k s w₂ nothing (to_lines k right i j j x) w₃) h' c.add_to_lines.ensures);
-    }
+    row_found k right (law_of_width k c.args.k.valid) size m i j jk c.requires.row c.args.work.now w₁ w₂ w₃ x c.fetch_slot.ensures.work
+    (subst (λ y. Plus k size w₁ (λ b r. only (eqb r i) (others k j (held y b i))) (λ b. lines_but k right i j (row_of i (below j k (held y b)))) w₂) e c.add_others.ensures.work)
+    (subst (λ s. IsSlot s w₂ i x) h c.copy_slot.ensures)
+    (subst (λ s. Plus k s w₂ nothing (to_lines k right i j j x) w₃) h' c.add_to_lines.ensures)

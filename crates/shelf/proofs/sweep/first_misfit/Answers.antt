@@ -35,8 +35,8 @@ places-preserved g c =
           (λ b l. subst (λ (n : ℕ). get_or block b 0 ≡ get_or work (s * n + b) 0) same (c.loop-i.invariant.1 b (omega arith)))),
     )
 
-pub returns-then-byte-work : goal.returns-then-byte-work
-returns-then-byte-work g c =
+pub returns-then-byte-work-clause-found : goal.returns-then-byte-work-clause-found
+returns-then-byte-work-clause-found g c =
     let m = g.T.Tray.meaning c.args.tray.now in
     let size = length c.args.block.now in
     let s = c.places.slot in
@@ -44,10 +44,6 @@ returns-then-byte-work g c =
     let work = c.args.work.now in
     let same : length block ≡ size = c.fetch.auto.block ∙ c.places.auto.block in
     let e = c.rows-slots.ensures.value in
-    record {
-      tray = calm_read m (g.T.Tray.meaning c.places.tray) (g.T.Tray.meaning c.fetch.new.tray) c.place-column.result.0 c.places.invariant.1 c.fetch.ensures.tray;
-      found =
-          first_off c.args.k.number size m (g.T.Tray.meaning c.places.tray) work block s c.place-column.result
-          (c.place-column.ensures ∙ c.in_slot.ensures) c.places.invariant.1 c.fetch.ensures.block
-          c.loop-i.i (omega arith) (λ h. c.if-byte-work.true (subst (λ (n : ℕ). get_or block c.loop-i.i 0 ≡ get_or work (s * n + c.loop-i.i) 0) (sym same) h)) (omega arith) c.places.invariant.2;
-    }
+    first_off c.args.k.number size m (g.T.Tray.meaning c.places.tray) work block s c.place-column.result
+    (c.place-column.ensures ∙ c.in_slot.ensures) c.places.invariant.1 c.fetch.ensures.block
+    c.loop-i.i (omega arith) (λ h. c.if-byte-work.true (subst (λ (n : ℕ). get_or block c.loop-i.i 0 ≡ get_or work (s * n + c.loop-i.i) 0) (sym same) h)) (omega arith) c.places.invariant.2

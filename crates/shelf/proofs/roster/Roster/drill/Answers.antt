@@ -1,21 +1,12 @@
-use Rattle.std.proofs.Common.{refl}
 use Rattle.shelf.proofs.Pulling.{pull_kept}
 use Rattle.shelf.proofs.Drilling.{drill_undone, drill_goes_on}
 use Rattle.shelf.proofs.roster.Roster.drill.Goals as goal
 
-pub returns : goal.returns
-returns c =
+pub returns-clause-carries : goal.returns-clause-carries
+returns-clause-carries c =
     let r = c.args.self.now in
     let after = c.pull-taken.new.self in
     let h = c.pull-taken.ensures in
     let kept = pull_kept r after c.args.column c.pull-taken.result h.value h.after in
     let undone = drill_undone r after c.args.column c.pull-taken.result h.value h.after in
-    record {
-      taken = h.value;
-      column = refl;
-      roster = h.after;
-      undone = undone;
-      lender = refl;
-      done = kept;
-      carries = drill_goes_on r after c.args.column c.pull-taken.result kept undone;
-    }
+    drill_goes_on r after c.args.column c.pull-taken.result kept undone

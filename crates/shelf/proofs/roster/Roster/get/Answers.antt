@@ -1,7 +1,7 @@
-use Rattle.std.proofs.Common.{length, Ok, sym, ◌∙◌, rules}
+use Rattle.std.proofs.Common.{length, Ok, sym, ◌∙◌}
 use Rattle.std.proofs.lemmas.Result.{err_from_is_err_and}
 use Rattle.shelf.proofs.Promised.{get_goes_on}
-use Rattle.shelf.proofs.Reaching.{in_reach, got, get_refused, spared}
+use Rattle.shelf.proofs.Reaching.{in_reach, got, get_refused}
 use Rattle.shelf.proofs.roster.Roster.get.Goals as goal
 
 pub hand-requires : goal.hand-requires
@@ -9,8 +9,8 @@ hand-requires g c =
     in_reach c.args.self.now (g.T.Tray.meaning c.args.tray.now) c.args.column c.args.row (length c.args.block.now) c.args.work.now
     (sym c.check_place.ensures.value ∙ c.in_ok-check_place.was) c.check_place.ensures.kept
 
-pub returns : goal.returns
-returns g c =
+pub returns-clause-done : goal.returns-clause-done
+returns-clause-done g c =
     let r = c.args.self.now in
     let m = g.T.Tray.meaning c.args.tray.now in
     let m' = g.T.Tray.meaning c.hand.new.tray in
@@ -18,24 +18,25 @@ returns g c =
     let done =
     got r m c.args.column c.args.row (length c.args.block.now) c.args.work.now ok c.hand.new.block m'
     c.hand.ensures.at_hand c.hand.ensures.calm c.hand.ensures.one_read in
-    record {
-      value = sym ok;
-      done = done;
-      work = tt;
-      carries = get_goes_on r m m' (g.T.Tray.sized c.args.tray.now) (g.T.Tray.sized c.hand.new.tray) c.args.column c.args.row c.args.block.now c.hand.new.block (Ok tt) done;
-    }
+    done
 
-pub returns-in_err-check_place : goal.returns-in_err-check_place
-returns-in_err-check_place g c =
+pub returns-clause-carries : goal.returns-clause-carries
+returns-clause-carries g c =
+    let r = c.args.self.now in
+    let m = g.T.Tray.meaning c.args.tray.now in
+    let m' = g.T.Tray.meaning c.hand.new.tray in
+    let ok = sym c.check_place.ensures.value ∙ c.in_ok-check_place.was in
+    let done =
+    got r m c.args.column c.args.row (length c.args.block.now) c.args.work.now ok c.hand.new.block m'
+    c.hand.ensures.at_hand c.hand.ensures.calm c.hand.ensures.one_read in
+    get_goes_on r m m' (g.T.Tray.sized c.args.tray.now) (g.T.Tray.sized c.hand.new.tray) c.args.column c.args.row c.args.block.now c.hand.new.block (Ok tt) done
+
+pub returns-in_err-check_place-clause-carries : goal.returns-in_err-check_place-clause-carries
+returns-in_err-check_place-clause-carries g c =
     let r = c.args.self.now in
     let m = g.T.Tray.meaning c.args.tray.now in
     let sized = g.T.Tray.sized c.args.tray.now in
     let answer = c.from_residual.result in
     let p = err_from_is_err_and answer c.from_residual.ensures.1 in
     let done = get_refused r m c.args.column c.args.row p.0 c.args.block.now answer p.1 in
-    record {
-      value = search rules;
-      done = done;
-      work = spared p.0 c.args.work.now answer p.1;
-      carries = get_goes_on r m m sized sized c.args.column c.args.row c.args.block.now c.args.block.now answer done;
-    }
+    get_goes_on r m m sized sized c.args.column c.args.row c.args.block.now c.args.block.now answer done

@@ -3,15 +3,15 @@ use Rattle.shelf.specs.Rosters.{Rostered, taken_out}
 use Rattle.shelf.proofs.Pulling.{pull_kept, pull_goes_on}
 use Rattle.shelf.proofs.roster.Roster.pull.Goals as goal
 
-pub returns : goal.returns
-returns c =
+pub returns-clause-carries : goal.returns-clause-carries
+returns-clause-carries c =
     let r = c.args.self.now in
     let r' : Rostered = record { width = c.self.inside.width.number; size = c.self.inside.size; missing = c.with-self-inside.result } in
     let value = sym c.in_ok-check_pull.was ∙ c.check_pull.ensures in
     let after : r' ≡ taken_out r c.args.column =
     ap (λ m. record { width = c.self.inside.width.number; size = c.self.inside.size; missing = m }) c.with-self-inside.ensures ∙ ap (λ (q : Rostered). taken_out q c.args.column) c.self.view_is in
     let done = pull_kept r r' c.args.column (Ok tt) value after in
-    record { value = value; after = after; done = done; carries = pull_goes_on r r' c.args.column (Ok tt) done }
+    pull_goes_on r r' c.args.column (Ok tt) done
 
 pub returns-in_err-check_pull-clause-carries : goal.returns-in_err-check_pull-clause-carries
 returns-in_err-check_pull-clause-carries c =

@@ -1,22 +1,21 @@
-use Rattle.std.proofs.Common.{length, Ok, sym, refl, ◌∙◌, subst, rules}
+use Rattle.std.proofs.Common.{length, Ok, sym, refl, ◌∙◌, subst}
 use Rattle.std.proofs.lemmas.Result.{err_from_is_err_and}
-use Rattle.law.specs.Promises.{Spares}
 use Rattle.shelf.specs.Promises.{SweepsOn}
 use Rattle.shelf.proofs.Limits.{is_width-kept}
 use Rattle.shelf.proofs.Promised.{sweep_goes_on}
 use Rattle.shelf.proofs.Sweeping.{sweep_ready, swept}
 use Rattle.shelf.proofs.roster.Roster.sweep.Goals as goal
 
-pub compare-requires : goal.compare-requires
-compare-requires g c =
+pub compare-requires-clause-heard : goal.compare-requires-clause-heard
+compare-requires-clause-heard g c =
     let h =
     sweep_ready c.args.self.now (g.T.Tray.meaning c.args.tray.now) c.args.work.now
     (sym c.check_sweep.ensures ∙ c.in_ok-check_sweep.was) (is_width-kept c.args.self.now c.width.ensures.kept)
     c.width.result.number c.width.ensures.value (length c.block.result.now) (c.block.ensures ∙ c.size.ensures.value) in
-    record { room = h.0; heard = h.1 }
+    h.1
 
-pub returns : goal.returns
-returns g c =
+pub returns-clause-carries : goal.returns-clause-carries
+returns-clause-carries g c =
     let r = c.args.self.now in
     let m = g.T.Tray.meaning c.args.tray.now in
     let m' = g.T.Tray.meaning c.compare.new.tray in
@@ -25,25 +24,14 @@ returns g c =
     let done =
     swept r m (length c.args.work.now) ok m' found c.width.result.number c.width.ensures.value (length c.block.result.now)
     (c.block.ensures ∙ c.size.ensures.value) c.compare.ensures.tray c.compare.ensures.found in
-    record {
-      value = sym ok;
-      done = done;
-      work = tt;
-      carries = sweep_goes_on r m m' (g.T.Tray.sized c.args.tray.now) (g.T.Tray.sized c.compare.new.tray) (Ok found) done;
-    }
+    sweep_goes_on r m m' (g.T.Tray.sized c.args.tray.now) (g.T.Tray.sized c.compare.new.tray) (Ok found) done
 
-pub returns-in_err-check_sweep : goal.returns-in_err-check_sweep
-returns-in_err-check_sweep g c =
+pub returns-in_err-check_sweep-clause-carries : goal.returns-in_err-check_sweep-clause-carries
+returns-in_err-check_sweep-clause-carries g c =
     let r = c.args.self.now in
     let m = g.T.Tray.meaning c.args.tray.now in
     let sized = g.T.Tray.sized c.args.tray.now in
-    let work = c.args.work.now in
     let answer = c.from_residual.result in
     let p = err_from_is_err_and answer c.from_residual.ensures.1 in
     let done = subst (λ a. SweepsOn r m a m) (sym p.1) refl in
-    record {
-      value = search rules;
-      done = done;
-      work = subst (λ a. Spares work a work) (sym p.1) refl;
-      carries = sweep_goes_on r m m sized sized answer done;
-    }
+    sweep_goes_on r m m sized sized answer done
