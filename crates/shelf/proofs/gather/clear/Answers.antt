@@ -1,4 +1,4 @@
-use Rattle.std.proofs.Common.{◌+◌, ◌-◌, ◌*◌, ◌≤◌, length, subst, mul-le-mul_right, add-mul, arith}
+use Rattle.std.proofs.Common.{◌+◌, ◌-◌, ◌*◌, ◌≤◌, length, subst, mul-le-mul_right, arith}
 use borrow.Rule.Slice.PartMut.{put_mid}
 use Rattle.std.proofs.lemmas.List.{places}
 use Rattle.code.specs.Code.{rows}
@@ -13,9 +13,7 @@ returns c =
     let work = c.args.work.now in
     let n = c.rows.result in
     let zeros = c.fill.new.self in
-    let after = c.fill.ensures.after (λ y e. e) in
     let fits : (first + n) * size ≤ length work =
     omega (arith, mul-le-mul_right {m = first + n} {n = 2 * rows c.args.k.number} size (omega (arith, c.rows.ensures.value)), c.requires.room.large) in
-    let l : first * size + n * size ≤ length work = omega (arith, add-mul first n size, fits) in
     subst (λ m. Filled size work first m (λ _ _. 0) (put_mid (first * size) (first * size + n * size - first * size) work zeros)) c.rows.ensures.value
     (slots_zeroed size work first n zeros fits (omega arith) (λ k. grind (arith, places)))

@@ -13,7 +13,6 @@ use Rattle.shelf.proofs.regain.add_taken.Goals as goal
 pub add_if-requires : goal.add_if-requires
 add_if-requires g c =
     let k = c.args.k.number in
-    let jk = c.requires.alone.column in
     record { ready = λ _. may_read k _ _ c.args.lost c.requires.alone k c.args.row.0 _ (omega arith) (omega arith) c.requires.row c.requires.scratch; scratch = c.requires.scratch }
 
 pub loop-column-init : goal.loop-column-init

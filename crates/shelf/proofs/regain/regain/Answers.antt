@@ -2,7 +2,6 @@ use Rattle.std.proofs.Common.{◌+◌, ◌-◌, length, subst, arith}
 use Rattle.code.specs.Numbers.{count}
 use Rattle.code.specs.Code.{rows, dark}
 use Rattle.code.specs.Neighbours.{published}
-use Rattle.code.proofs.Limits.{a_width}
 use Rattle.law.specs.Holding.{held}
 use Rattle.shelf.specs.Reading.{times}
 use Rattle.shelf.specs.Regaining.{Halfway}
@@ -16,7 +15,6 @@ returns g c =
     let k = c.args.k.number in
     let j = c.args.column in
     let size = length c.args.block.now in
-    let w = a_width k c.args.k.valid in
     let jk = c.requires.alone.column in
     let e = c.read_lines.ensures.tray in
     record {

@@ -12,7 +12,6 @@ use Rattle.shelf.proofs.regain.regain_row.Goals as goal
 pub returns-clause-work : goal.returns-clause-work
 returns-clause-work g c =
     let m = g.T.Tray.meaning c.args.tray.now in
-    let m' = g.T.Tray.meaning c.fetch_slot.new.tray in
     let k = c.args.k.number in
     let right = published k in
     let size = length c.args.block.now in

@@ -5,4 +5,4 @@ use Rattle.shelf.proofs.slots.copy_slot.Goals as goal
 
 pub returns : goal.returns
 unfolding slot
-returns c = λ b l. let h = c.copy_from_slice.ensures.after in grind (arith, places)
+returns c = λ b l. grind (arith, places)

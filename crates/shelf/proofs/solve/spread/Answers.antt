@@ -10,14 +10,12 @@ loop-row-init c = spread_none c.args.k.number (published c.args.k.number) (law_o
 
 pub loop-row-preserved : goal.loop-row-preserved
 loop-row-preserved c =
-    let e = c.rows-row-end.ensures.value in
     spread_more c.args.k.number (published c.args.k.number) (law_of_width _ c.args.k.valid) (length c.args.block.now) c.args.work.now c.args.column c.requires.column
     c.loop-row.row (length c.copy_slot.new.block) (length c.loop-row.block) c.copy_slot.new.block c.loop-row.work c.add_to_lines.new.work
     (omega arith) (omega arith) c.loop-row.auto.block c.loop-row.invariant c.copy_slot.ensures c.add_to_lines.ensures
 
 pub returns : goal.returns
 returns c =
-    let r = c.rows-row-end.ensures.value in
     let e : c.loop-row.row ≡ rows c.args.k.number = omega arith in
     spread_all c.args.k.number (published c.args.k.number) (law_of_width _ c.args.k.valid) (length c.args.block.now) c.args.work.now c.args.column c.requires.column c.loop-row.work
     (rw e at c.loop-row.invariant)

@@ -6,7 +6,6 @@ use Rattle.shelf.proofs.sweep.Parity.in_slot.Goals as goal
 pub returns-then-slot-rows : goal.returns-then-slot-rows
 returns-then-slot-rows c =
     let k = c.args.k.number in
-    let e : c.rows-rows.result ≡ rows k = c.rows-rows.ensures.value in
     sym (place_row k c.args.slot (omega arith))
 
 pub returns-else-slot-rows : goal.returns-else-slot-rows
