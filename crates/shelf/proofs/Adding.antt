@@ -1,5 +1,5 @@
 -- What is added to the slots of rows and lines.
-use Rattle.std.proofs.Common.{◌≡◌, ℕ, ◌+◌, ◌-◌, ◌*◌, ◌<◌, ◌≤◌, true, false, cond, ◌&&◌, eqb, ltb, leb, ◌≢◌, List, length, get_or, sym, ap, ◌∙◌, subst, mul-le-mul_right, arith}
+use Rattle.std.proofs.Common.{◌≡◌, ℕ, ◌+◌, ◌-◌, ◌*◌, ◌<◌, ◌≤◌, true, false, cond, ◌&&◌, eqb, ltb, leb, List, length, get_or, sym, ap, ◌∙◌, subst, mul-le-mul_right, arith}
 use native.Mathlib.Decide.{ℕ_discrete}
 use lib.Bits.{bit_xor, xor_assoc, xor_zero_r}
 use borrow.Author.Tests.{eq-true, ne_false}
@@ -7,7 +7,7 @@ use Rattle.std.proofs.lemmas.Bool.Decides.{nat_tests}
 use Rattle.code.specs.Numbers.{only}
 use Rattle.code.specs.Code.{rows}
 use Rattle.code.proofs.Xor.{only_false}
-use Rattle.shelf.specs.Slots.{slot, row_slot, line_slot, Room, SlotAdded, SlotSet, Filled, Plus, nothing}
+use Rattle.shelf.specs.Slots.{slot, row_slot, line_slot, Room, SlotAdded, Filled, Plus, nothing}
 
 -- a slot lies in the work space
 pub has_slot : (k size : ℕ) (work : List ℕ) → Room k size work → (s : ℕ) → s < rows k + rows k → (s + 1) * size ≤ length work
@@ -19,37 +19,6 @@ has_slot_for k size len work room e s l = subst (λ x. (s + 1) * x ≤ length wo
 
 pub room_kept : (k size : ℕ) (was work : List ℕ) → Room k size was → length work ≡ length was → Room k size work
 room_kept k size was work room e = record { large = omega (arith, room.large) }
-
-pub room_kept_for : (k size len : ℕ) (was work : List ℕ) → Room k size was → length work ≡ length was → len ≡ size → Room k len work
-room_kept_for k size len was work room e f = subst (λ x. Room k x work) (sym f) (room_kept k size was work room e)
-
--- slots filled one by one
-pub filled_none : (size : ℕ) (was : List ℕ) (first : ℕ) (f : ℕ → ℕ → ℕ) → Filled size was first 0 f was
-filled_none size was first f t b _ = grind (arith, nat_tests)
-
-pub filled_more : (size : ℕ) (was : List ℕ) (first n : ℕ) (f : ℕ → ℕ → ℕ) (mid after : List ℕ)
-    → Filled size was first n f mid → SlotSet size mid (first + n) (f n) after → Filled size was first (n + 1) f after
-filled_more size was first n f mid after h s t b l =
-    s t b l
-    ∙ elim (ℕ_discrete t (first + n)) [
-      | yes e ↦
-          ap (λ x. cond x (f n b) (slot size mid t b)) (sym (eq-true t (first + n) e))
-          ∙ ap (λ x. f x b) (here t e)
-          ∙ ap (λ x. cond x (f (t - first) b) (slot size was t b)) (in_range t e)
-      | no d ↦
-          ap (λ x. cond x (f n b) (slot size mid t b)) (sym (ne_false t (first + n) d))
-          ∙ h t b l
-          ∙ ap (λ x. cond x (f (t - first) b) (slot size was t b)) (same t d)
-    ]
-  where
-    here : (t : ℕ) → t ≡ first + n → n ≡ t - first
-    here t e = omega arith
-
-    in_range : (t : ℕ) → t ≡ first + n → true ≡ leb first t && ltb t (first + (n + 1))
-    in_range t e = grind (arith, nat_tests)
-
-    same : (t : ℕ) → t ≢ first + n → leb first t && ltb t (first + n) ≡ leb first t && ltb t (first + (n + 1))
-    same t d = grind (arith, nat_tests)
 
 pub filled_same : (size : ℕ) (was : List ℕ) (first n : ℕ) (f g : ℕ → ℕ → ℕ) (after : List ℕ) → ((t b : ℕ) → f t b ≡ g t b) → Filled size was first n f after → Filled size was first n g after
 filled_same size was first n f g after e h t b l = h t b l ∙ ap (λ x. cond (leb first t && ltb t (first + n)) x (slot size was t b)) (e (t - first) b)

@@ -1,5 +1,5 @@
 -- Blocks of a tray that a change is added to.
-use Rattle.std.proofs.Common.{◌≡◌, ℕ, ◌+◌, ◌<◌, Bool, true, false, cond, not, ◌&&◌, ◌||◌, eqb, List, get_or, sym, refl, ap, ◌∙◌, ap₂, true≢false, add-one, arith, eqb-true}
+use Rattle.std.proofs.Common.{◌≡◌, ℕ, ◌+◌, ◌<◌, Bool, true, false, cond, ◌&&◌, ◌||◌, eqb, List, get_or, sym, refl, ap, ◌∙◌, ap₂, true≢false, add-one, arith, eqb-true}
 use lib.Bits.{bit_xor}
 use borrow.Author.Tests.{ne_false}
 use Rattle.std.proofs.lemmas.Bool.Decides.{nat_tests}
@@ -14,7 +14,7 @@ use Rattle.law.specs.Holding.{held, SameFrame}
 use Rattle.shelf.specs.Blocks.{Ready}
 use Rattle.shelf.specs.Reading.{Answers, Heard}
 use Rattle.shelf.specs.Regaining.{BytesAdded}
-use Rattle.shelf.specs.Parities.{Places, AddedAt, only_at, line_by, lines_below, line_places, places_in_service}
+use Rattle.shelf.specs.Parities.{Places, AddedAt, only_at, line_by, lines_below, line_places}
 use Rattle.shelf.proofs.Limits.{first, second}
 use Rattle.shelf.proofs.Frames.{frame_none, frame_twice, frame_read, frame_written}
 
@@ -78,15 +78,6 @@ module _ (size : ℕ) (m : Meaning) (x : List ℕ) where
       flip : (d r : ℕ) → eqb d c && eqb r i ≡ eqb c d && eqb i r
       flip d r = grind (arith, nat_tests)
 
--- a column that answers goes on to answer
-pub answers_still : (k size c : ℕ) (m m' : Meaning) → SameFrame m m' → Answers k size m c → Answers k size m' c
-answers_still k size c m m' f a =
-    record {
-      shape = record { wide = f.shape.wide ∙ a.shape.wide; tall = f.shape.tall ∙ a.shape.tall; deep = f.shape.deep ∙ a.shape.deep };
-      column = a.column;
-      flag = ap (λ g. g c) f.answers ∙ a.flag;
-    }
-
 -- ---- the lines that hold a place, column by column
 
 module _ (k : ℕ) (right : Rule) (i j : ℕ) where
@@ -123,37 +114,7 @@ module _ (k : ℕ) (right : Rule) (i j : ℕ) where
       ap (λ b. eqb (k + 1) c && b)
       (any_same k (λ t. eqb (meets r t) i && takes right i t j) (λ t. eqb (meets i t) r && takes right i t j) (λ t. ap (λ b. b && takes right i t j) (turned r i t)))
 
-  pub line_taken : (t : ℕ) → takes right i t j ≡ true → (c r : ℕ) → line_by k right i j t c r ≡ only_at (k + 1) (meets i t) c r
-  line_taken t e c r = ap (λ b. eqb (k + 1) c && (eqb (meets i t) r && b)) e ∙ ap (λ b. eqb (k + 1) c && b) (and_true (eqb (meets i t) r))
-
-  pub line_left : (t : ℕ) → takes right i t j ≡ false → (c r : ℕ) → line_by k right i j t c r ≡ false
-  line_left t e c r = ap (λ b. eqb (k + 1) c && (eqb (meets i t) r && b)) e ∙ ap (λ b. eqb (k + 1) c && b) (and_false (eqb (meets i t) r)) ∙ and_false (eqb (k + 1) c)
-
 -- ---- the parities in service
-
-module _ (out : Columns) (j : ℕ) (f : ℕ → Bool) (c r : ℕ) where
-  pub served_in : out j ≡ false → not (out c) && (eqb j c && f r) ≡ eqb j c && f r
-  served_in o = go (eqb j c) refl
-    where
-      go : (b : Bool) → eqb j c ≡ b → not (out c) && (b && f r) ≡ b && f r
-      go true e = ap (λ s. not s && f r) (ap out (sym (eqb-true j c e)) ∙ o)
-      go false e = and_false (not (out c))
-
-  pub served_out : out j ≡ true → not (out c) && (eqb j c && f r) ≡ false
-  served_out o = go (eqb j c) refl
-    where
-      go : (b : Bool) → eqb j c ≡ b → not (out c) && (b && f r) ≡ false
-      go true e = ap (λ s. not s && f r) (ap out (sym (eqb-true j c e)) ∙ o)
-      go false e = and_false (not (out c))
-
--- the line column is not that of the sums
-pub sum_apart : (k : ℕ) (right : Rule) (out : Columns) (i j c r : ℕ) → places_in_service out (line_places k right i j) c r ≡ true → places_in_service out (only_at k i) c r ≡ false
-sum_apart k right out i j c r e = go (out c) (eqb (k + 1) c) refl e
-  where
-    go : (s t : Bool) → eqb (k + 1) c ≡ t → not s && (t && holds k right r i j) ≡ true → not s && (eqb k c && eqb i r) ≡ false
-    go true t h e = refl
-    go false true h e = ap (λ b. b && eqb i r) (sym (ne_false k c (λ q. let p = eqb-true (k + 1) c h in omega arith)))
-    go false false h e = absurd (true≢false (sym e))
 
 -- columns in service go on to answer
 pub heard_still : (k size : ℕ) (out : Columns) (m m' : Meaning) → SameFrame m m' → Heard k size out m → Heard k size out m'
@@ -162,9 +123,6 @@ heard_still k size out m m' f h =
       shape = record { wide = f.shape.wide ∙ h.shape.wide; tall = f.shape.tall ∙ h.shape.tall; deep = f.shape.deep ∙ h.shape.deep };
       answers = λ c l o. ap (λ g. g c) f.answers ∙ h.answers c l o;
     }
-
-pub heard_answers : (k size : ℕ) (out : Columns) (m : Meaning) (c : ℕ) → Heard k size out m → c < k + 2 → out c ≡ false → Answers k size m c
-heard_answers k size out m c h l o = record { shape = h.shape; column = l; flag = h.answers c l o }
 
 pub answers_ready : (k size : ℕ) (m : Meaning) (c i : ℕ) → Answers k size m c → i < rows k → Ready m c i size
 answers_ready k size m c i a l =

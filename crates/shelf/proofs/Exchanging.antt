@@ -15,7 +15,6 @@ use Rattle.law.proofs.Hand.{which}
 use Rattle.law.proofs.Writes.{writes_data, writes_sum, writes_line}
 use Rattle.shelf.specs.declared.roster.missing.Missing.{Missing}
 use Rattle.shelf.specs.Missing.{is_out}
-use Rattle.shelf.specs.Reading.{Heard}
 use Rattle.shelf.specs.Regaining.{BytesAdded}
 use Rattle.shelf.specs.Parities.{AddedAt, parities_of}
 use Rattle.shelf.proofs.Frames.{frame_twice, frame_written}
@@ -129,10 +128,6 @@ module _ (k : ℕ) (right : Rule) (size : ℕ) (out : Columns) (m m' m'' m''' : 
 -- ---- the same facts under other names for the width, the block size and the columns out
 
 module _ (k k' size size' : ℕ) (out out' : Missing) (ek : k' ≡ k) (es : size' ≡ size) (eo : out' ≡ out) where
-  pub heard_as : (m : Meaning) → Heard k size (is_out out) m → Heard k' size' (is_out out') m
-  heard_as m h =
-      subst (λ n. Heard n size' (is_out out') m) (sym ek) (subst (λ n. Heard k n (is_out out') m) (sym es) (subst (λ o. Heard k size (is_out o) m) (sym eo) h))
-
   pub added_as : (m m' : Meaning) (x : List ℕ) (i j : ℕ) → AddedAt size' m x (parities_of k' (published k') (is_out out') i j) m' → AddedAt size m x (parities_of k (published k) (is_out out) i j) m'
   added_as m m' x i j h =
       subst (λ n. AddedAt size m x (parities_of n (published n) (is_out out) i j) m') ek

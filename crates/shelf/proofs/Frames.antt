@@ -2,9 +2,6 @@
 use Rattle.std.proofs.Common.{◌≡◌, ℕ, List, refl, ap, ◌∙◌}
 use Rattle.tray.specs.Meaning.{Meaning, tallied, stored}
 use Rattle.law.specs.Holding.{SameFrame, Calm}
-use Rattle.shelf.specs.declared.roster.missing.Missing.{Missing}
-use Rattle.shelf.specs.Rosters.{Rostered}
-use Rattle.shelf.proofs.Checked.{Sound}
 
 pub frame_none : (m : Meaning) → SameFrame m m
 frame_none m = record { shape = record { wide = refl; tall = refl; deep = refl }; answers = refl }
@@ -40,16 +37,5 @@ pub frame_written : (m m' m'' : Meaning) (c i : ℕ) (block : List ℕ) → Same
 frame_written m m' m'' c i block h e =
     frame_is m (stored m' c i block) m'' (record { shape = record { wide = h.shape.wide; tall = h.shape.tall; deep = h.shape.deep }; answers = h.answers }) e
 
-pub calm_none : (m : Meaning) → Calm m m
-calm_none m = record { frame = frame_none m; block = refl }
-
 pub calm_read : (m m' m'' : Meaning) (c : ℕ) → Calm m m' → m'' ≡ tallied m' c → Calm m m''
 calm_read m m' m'' c h e = record { frame = frame_read m m' m'' c h.frame e; block = ap (λ t. t.block) e ∙ h.block }
-
--- a tray that was found sound stays so
-pub still_sound : (out : Missing) (r : Rostered) (m m' : Meaning) → Sound out r m → SameFrame m m' → Sound out r m'
-still_sound out r m m' h f =
-    record {
-      shape = record { wide = f.shape.wide ∙ h.shape.wide; tall = f.shape.tall ∙ h.shape.tall; deep = f.shape.deep ∙ h.shape.deep };
-      heard = λ c cl o. ap (λ t. t c) f.answers ∙ h.heard c cl o;
-    }

@@ -242,9 +242,6 @@ module _ (out : Columns) where
           | no d ↦ ap (λ x. not (out c) && x) (sym (ne_false c j d)) ∙ off (not (out c))
         ])
 
-pub heard_one : (k size : ℕ) (out : Columns) (m : Meaning) → Heard k size out m → (c : ℕ) → c < k + 2 → out c ≡ false → Answers k size m c
-heard_one k size out m h c l o = record { shape = h.shape; column = l; flag = h.answers c l o }
-
 pub heard_still : (k size : ℕ) (out : Columns) (m m' : Meaning) (f : ℕ → ℕ) → m' ≡ after_reads m f → Heard k size out m → Heard k size out m'
 heard_still k size out m m' f e h = subst (Heard k size out) (sym e) (record { shape = record { wide = h.shape.wide; tall = h.shape.tall; deep = h.shape.deep }; answers = h.answers })
 

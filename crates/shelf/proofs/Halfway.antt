@@ -14,7 +14,7 @@ use Rattle.code.proofs.Lost.{beside_none, gives_none}
 use Rattle.code.proofs.Count.{count_le, count_next}
 use Rattle.code.proofs.DarkHalf.{dark_half}
 use Rattle.law.specs.Hand.{others, by_row, with_row, by_line, regained}
-use Rattle.shelf.specs.Slots.{slot, row_slot, line_slot, SlotSet}
+use Rattle.shelf.specs.Slots.{slot, row_slot, line_slot}
 use Rattle.shelf.specs.Reading.{after_reads, times}
 use Rattle.shelf.specs.Regaining.{of_rows, half_of, Found, row_of, lines_but, RowFound, LinesRead, dark_below, Halfway}
 use Rattle.shelf.proofs.Gathering.{reads_none, reads_same}
@@ -100,26 +100,6 @@ module _ (k : ℕ) (right : Rule) (size j : ℕ) (M : ℕ → Blocks) (n : ℕ) 
             (butterfly_same k right (dark_below j n (with_row k (M b) j)) (dark_below j (n + 1) (with_row k (M b) j))
             (λ i' c _ _. dark_less j n (with_row k (M b) j) i' c d) (meets i j) (meets_lt k i j il jk));
       }
-
--- ---- the lines of the white rows one by one
-
-module _ (k size j : ℕ) (M : ℕ → Blocks) (n : ℕ) where
-  pub line_read : (was after : List ℕ) → dark n j ≡ false → LinesRead k size j M n was → SlotSet size was (rows k + meets n j) (λ b. M b (meets n j) (k + 1)) after
-      → LinesRead k size j M (n + 1) after
-  line_read was after d h s b i bl il w =
-      s (rows k + meets i j) b bl
-      ∙ elim (ℕ_discrete i n) [
-        | yes e ↦
-            ap (λ x. cond x (M b (meets n j) (k + 1)) (line_slot k size was b (meets i j))) (sym (eq-true (rows k + meets i j) (rows k + meets n j) (ap (λ r. rows k + meets r j) e)))
-            ∙ ap (λ r. M b (meets r j) (k + 1)) (sym e)
-        | no ne ↦
-            let ne' : meets i j ≢ meets n j = apart i n j ne in
-            ap (λ x. cond x (M b (meets n j) (k + 1)) (line_slot k size was b (meets i j))) (sym (ne_false (rows k + meets i j) (rows k + meets n j) (omega arith)))
-            ∙ h b i bl (omega arith) w
-      ]
-
-  pub line_passed : (work : List ℕ) → dark n j ≡ true → LinesRead k size j M n work → LinesRead k size j M (n + 1) work
-  line_passed work d h b i bl il w = let ne : i ≢ n = differ i n j w d in h b i bl (omega arith) w
 
 -- ---- the start and the end
 

@@ -1,14 +1,12 @@
 -- The data at hand, by the columns that are out.
-use Rattle.std.proofs.Common.{◌≡◌, ℕ, ◌+◌, ◌<◌, ◌≤◌, Bool, true, false, ◌||◌, eqb, ◌≢◌, List, length, sym, refl, ap, ◌∙◌, true≢false, arith, ext_get_or, eqb-true}
-use borrow.Author.Tests.{eqb-false, ne_false}
+use Rattle.std.proofs.Common.{◌≡◌, ℕ, ◌+◌, ◌<◌, Bool, true, false, ◌||◌, eqb, ◌≢◌, List, length, sym, refl, ap, ◌∙◌, true≢false, arith, ext_get_or, eqb-true}
+use borrow.Author.Tests.{eqb-false}
 use Rattle.std.proofs.lemmas.Bool.Decides.{nat_tests}
 use Rattle.tray.specs.Meaning.{Meaning}
 use Rattle.code.specs.Code.{Rule}
 use Rattle.code.specs.Neighbours.{Tournament}
 use Rattle.code.specs.Laws.{lane}
-use Rattle.code.proofs.Limits.{some_rows}
 use Rattle.code.proofs.Linear.{value_data}
-use Rattle.law.specs.Service.{Sole}
 use Rattle.law.specs.Holding.{Calm}
 use Rattle.law.specs.Hand.{AtHand}
 use Rattle.law.proofs.ForCode.{hand_solved}
@@ -16,16 +14,10 @@ use Rattle.law.proofs.Pinned.{some_blocks}
 use Rattle.shelf.specs.declared.roster.missing.Missing.{Missing}
 use Rattle.shelf.specs.declared.roster.missing.Missing.TheVariants.{Nothing, One, Two}
 use Rattle.shelf.specs.Missing.{is_out, is_full, are_columns}
-use Rattle.shelf.specs.Slots.{slot, Room, IsSlot}
+use Rattle.shelf.specs.Slots.{slot, IsSlot}
 use Rattle.shelf.specs.Reading.{after_reads}
 use Rattle.shelf.specs.Recovering.{is_sole_data, slot_for, Found}
-use Rattle.shelf.specs.Regaining.{Alone}
 use Rattle.shelf.specs.Hands.{Reach}
-use Rattle.shelf.proofs.Adding.{has_slot}
-
--- the work space has a block to lend
-pub within_work : (k size : ℕ) (work : List ℕ) → Room k size work → size ≤ length work
-within_work k size work room = omega (arith, has_slot k size work room 0 (omega (arith, some_rows k)))
 
 -- reads change nothing but tallies
 pub calm_reads : (m m' : Meaning) (f : ℕ → ℕ) → m' ≡ after_reads m f → Calm m m'
@@ -33,21 +25,6 @@ calm_reads m m' f e =
     record {
       frame = record { shape = record { wide = ap (λ t. t.columns) e; tall = ap (λ t. t.rows) e; deep = ap (λ t. t.size) e }; answers = ap (λ t. t.answers) e };
       block = ap (λ t. t.block) e;
-    }
-
--- ---- the column alone is out
-
-pub is_sole : (k : ℕ) (out : Missing) (j : ℕ) → is_out out j ≡ true → is_full out ≡ false → Sole k (is_out out) j
-is_sole k Nothing j o f = absurd (true≢false (sym o))
-is_sole k (One a) j o f = record { itself = o; others = λ c _ n. sym (ne_false a c (λ e. n (sym e ∙ eqb-true a j o))) }
-is_sole k (Two a b) j o f = absurd (true≢false f)
-
-pub is_alone : (k size : ℕ) (out : Missing) (m : Meaning) (j i : ℕ) (work : List ℕ) → Reach k size out m j i work → is_out out j ≡ true → is_full out ≡ false → Alone k size m j
-is_alone k size out m j i work h o f =
-    let sole = is_sole k out j o f in
-    record {
-      column = h.column;
-      heard = record { shape = h.heard.shape; answers = λ c cl e. h.heard.answers c cl (sole.others c cl (λ q. eqb-false j c e (sym q))) };
     }
 
 -- ---- the column is out with another one

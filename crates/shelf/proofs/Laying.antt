@@ -8,7 +8,6 @@ use Rattle.tray.specs.Meaning.{Meaning, Sized, if_ok}
 use Rattle.code.specs.Widths.{is_width}
 use Rattle.code.specs.Code.{rows}
 use Rattle.law.specs.Calls.{Laid}
-use Rattle.law.specs.Promises.{Lays}
 use Rattle.law.specs.Runs.{Run}
 use Rattle.shelf.specs.Missing.{is_out, is_size}
 use Rattle.shelf.specs.Rosters.{Rostered, full_roster}
@@ -41,10 +40,6 @@ module _ (k b : ℕ) (m m' : Meaning) where
             ap (λ t. t.block c r) e
             ∙ ap₂ (λ s t. cond (s && t) (replicate b 0) (m.block c r)) (sym (lt-true c (k + 2) cl)) (sym (lt-true r (rows k) rl));
       }
-
-  pub layout_kept : (answer : Result Rostered Fault) → answer ≡ laying_out k b m → m' ≡ if_ok answer (zeroed k b m) m → Lays k b m answer m'
-  layout_kept (Ok r) e f = laid (laid_out k b m r e).0 f
-  layout_kept (Err u) e f = f
 
   pub layout_begins : (sized : Sized m') (answer : Result Rostered Fault) → answer ≡ laying_out k b m → m' ≡ if_ok answer (zeroed k b m) m → Begins answer m' sized
   layout_begins sized (Ok r) e f =

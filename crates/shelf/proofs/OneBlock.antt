@@ -62,9 +62,6 @@ pub may_read_calm : (k size : ℕ) (m m' : Meaning) (j : ℕ) → Calm m m' → 
     → (c i n : ℕ) → c < k + 2 → c ≢ j → i < rows k → n ≡ size → Ready m' c i n
 may_read_calm k size m m' j p a = may_read k size m' j (alone_calm k size size m m' j refl p a)
 
-pub is_other : (c j : ℕ) → not (eqb c j) ≡ true → c ≢ j
-is_other c j h e = true≢false (sym h ∙ ap not (sym (eq-true c j e)))
-
 -- ---- blocks
 
 -- a block is a work space of one slot

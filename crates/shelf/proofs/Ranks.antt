@@ -17,33 +17,12 @@ use Rattle.shelf.proofs.Settling.{solving_same, settle_step}
 -- ---- before
 
 module _ (k p q : ℕ) where
-  -- none of rank below 0
-  pub none_before : (u : ℕ) → false ≡ before k p q 0 0 u
-  none_before u = go (rank k p q u)
-    where
-      go : (n : ℕ) → false ≡ ltb n 0 || (eqb n 0 && ltb u 0)
-      go n = grind (arith, nat_tests)
-
   -- after the last row of a rank come the rows of the next
   pub rank_done : (r n u : ℕ) → u < n → before k p q r n u ≡ before k p q (r + 1) 0 u
   rank_done r n u l = go (rank k p q u)
     where
       go : (x : ℕ) → ltb x r || (eqb x r && ltb u n) ≡ ltb x (r + 1) || (eqb x (r + 1) && ltb u 0)
       go x = grind (arith, nat_tests)
-
-  -- a row of another rank is passed over
-  pub passed_over : (r v u : ℕ) → rank k p q v ≢ r → before k p q r v u ≡ before k p q r (v + 1) u
-  passed_over r v u d =
-      elim (ℕ_discrete u v) [
-        | yes e ↦ go (rank k p q u) (λ f. d (ap (rank k p q) (sym e) ∙ f))
-        | no n ↦ there (rank k p q u) n
-      ]
-    where
-      go : (x : ℕ) → x ≢ r → ltb x r || (eqb x r && ltb u v) ≡ ltb x r || (eqb x r && ltb u (v + 1))
-      go x d = grind (arith, nat_tests)
-
-      there : (x : ℕ) → u ≢ v → ltb x r || (eqb x r && ltb u v) ≡ ltb x r || (eqb x r && ltb u (v + 1))
-      there x n = grind (arith, nat_tests)
 
   -- a row of this rank is the next
   pub taken_next : (r v u : ℕ) → rank k p q v ≡ r → (before k p q r v u || eqb u v) ≡ before k p q r (v + 1) u
@@ -99,14 +78,8 @@ module _ (k : ℕ) (right : Rule) (law : Tournament k right) (none_right : (t : 
       (settle_step k right law none_right p q pair size D (before k p q r v) v vl (not_before k p q r v e) (λ u _ l. lower_before k p q r v u e l)
       (λ u w _ _ t l. before_closed k p q r v u w t l) was after s old)
 
-  pub pass_over : (r v : ℕ) → rank k p q v ≢ r → (was : List ℕ) → Solving k right size p q D (before k p q r v) was → Solving k right size p q D (before k p q r (v + 1)) was
-  pass_over r v d was old = solving_same k right law none_right p q pair size D (before k p q r v) (before k p q r (v + 1)) was (λ u _. passed_over k p q r v u d) old
-
   pub next_rank : (r n : ℕ) → n ≡ rows k → (was : List ℕ) → Solving k right size p q D (before k p q r n) was → Solving k right size p q D (before k p q (r + 1) 0) was
   next_rank r n e was old = solving_same k right law none_right p q pair size D (before k p q r n) (before k p q (r + 1) 0) was (λ u l. rank_done k p q r n u (omega arith)) old
-
-  pub first_rank : (was : List ℕ) → Solving k right size p q D (λ _. false) was → Solving k right size p q D (before k p q 0 0) was
-  first_rank was old = solving_same k right law none_right p q pair size D (λ _. false) (before k p q 0 0) was (λ u _. none_before k p q u) old
 
   pub last_rank : (was : List ℕ) → Solving k right size p q D (before k p q (2 * k + 2) 0) was → Solving k right size p q D (λ _. true) was
   last_rank was old = solving_same k right law none_right p q pair size D (before k p q (2 * k + 2) 0) (λ _. true) was (λ u _. all_before k p q u) old

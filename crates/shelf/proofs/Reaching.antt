@@ -1,6 +1,5 @@
 -- What the checks of a get and a put tell, and what a refused call leaves.
 use Rattle.std.proofs.Common.{◌≡◌, ℕ, ◌*◌, ◌≤◌, true, false, List, length, Ok, Err, Result, sym, refl, ◌∙◌, subst, arith}
-use Rattle.std.proofs.lemmas.Bool.Decides.{nat_tests}
 use Rattle.tray.specs.declared.fault.Fault.{Fault}
 use Rattle.tray.specs.Meaning.{Meaning, tallied}
 use Rattle.code.specs.Code.{rows}
@@ -31,9 +30,6 @@ module _ (r : Rostered) (m : Meaning) (c i n : ℕ) (work : List ℕ) (ok : reac
         column = h.column;
         row = h.row;
       }
-
-  pub fits_most : keeps r.width r.size r.missing ≡ true → n ≤ 512
-  fits_most kept = let e = (reached r m c i n (length work) ok).long in grind (arith, nat_tests)
 
   pub put_at : (m' : Meaning) (x : List ℕ) → Put r.width (published r.width) n (out_of r) m c i x m' → Put r.width (published r.width) r.size (out_of r) m c i x m'
   put_at m' x p = subst (λ s. Put r.width (published r.width) s (out_of r) m c i x m') (reached r m c i n (length work) ok).long p

@@ -1,9 +1,8 @@
 -- What a rebuild finds, writes and reads.
 use Rattle.std.proofs.Common.{◌≡◌, ℕ, suc, ◌+◌, ◌-◌, ◌*◌, ◌/◌, ◌^◌, ◌<◌, ◌≤◌, true, List, length, get_or, sym, ap, add-mul, mul-le-mul, arith}
 use mathlib.Core.Path.{fun_ext}
-use Rattle.std.proofs.lemmas.Bool.Decides.{nat_tests}
 use Rattle.std.proofs.lemmas.List.{places}
-use Rattle.tray.specs.Meaning.{Meaning, stored}
+use Rattle.tray.specs.Meaning.{Meaning}
 use Rattle.code.specs.Code.{rows}
 use Rattle.code.specs.Widths.{is_width}
 use Rattle.code.proofs.Limits.{a_width, few_rows}
@@ -11,7 +10,7 @@ use Rattle.shelf.specs.Wiped.{holding}
 use Rattle.shelf.specs.Blocks.{Ready}
 use Rattle.shelf.specs.Slots.{slot}
 use Rattle.shelf.specs.Reading.{Answers}
-use Rattle.shelf.specs.Rebuilding.{slot_block, written}
+use Rattle.shelf.specs.Rebuilding.{slot_block}
 
 -- ---- how many blocks
 
@@ -45,12 +44,6 @@ module _ (size : ℕ) (work : List ℕ) (s : ℕ) (fits : (s + 1) * size ≤ len
 module _ (m : Meaning) (c : ℕ) (f : ℕ → List ℕ) where
   same_blocks : (g h : ℕ → ℕ → List ℕ) → ((j i : ℕ) → g j i ≡ h j i) → holding m g ≡ holding m h
   same_blocks g h e = ap (holding m) (fun_ext (λ j. fun_ext (λ i. e j i)))
-
-  pub written_none : m ≡ written m c 0 f
-  written_none = same_blocks m.block _ (λ j i. grind (arith, nat_tests))
-
-  pub written_more : (n : ℕ) → stored (written m c n f) c n (f n) ≡ written m c (n + 1) f
-  written_more n = same_blocks _ _ (λ j i. grind (arith, nat_tests))
 
 -- a column that answers can be written
 pub answers_ready : (k size : ℕ) (m : Meaning) (c : ℕ) → Answers k size m c → (i : ℕ) → i < rows k → Ready m c i size

@@ -1,9 +1,8 @@
 -- A column that was found and written is rebuilt.
-use Rattle.std.proofs.Common.{◌≡◌, ℕ, ◌+◌, ◌-◌, ◌*◌, ◌%◌, ◌^◌, ◌<◌, ◌≤◌, Bool, true, false, cond, not, ◌&&◌, ◌||◌, eqb, ltb, ◌≢◌, List, length, get_or, Ok, Result, sym, refl, ap, ◌∙◌, subst, ap₂, true≢false, arith, eqb-true}
+use Rattle.std.proofs.Common.{◌≡◌, ℕ, ◌+◌, ◌-◌, ◌*◌, ◌%◌, ◌^◌, ◌<◌, ◌≤◌, Bool, true, false, cond, not, ◌&&◌, ◌||◌, eqb, ltb, ◌≢◌, List, length, get_or, Ok, sym, refl, ap, ◌∙◌, subst, ap₂, true≢false, arith, eqb-true}
 use native.Mathlib.Decide.{ℕ_discrete, dec_lt}
 use borrow.Author.Tests.{eq-true, ne_false, lt-true, le-false}
 use Rattle.std.proofs.lemmas.Bool.Decides.{nat_tests}
-use Rattle.tray.specs.declared.fault.Fault.{Fault}
 use Rattle.tray.specs.Meaning.{Meaning, Sized}
 use Rattle.code.specs.Code.{Rule, rows, dark, meets, value}
 use Rattle.code.specs.Neighbours.{Tournament, published}
@@ -31,12 +30,11 @@ use Rattle.shelf.specs.declared.rebuild.Whereabouts.TheVariants.{Alone, ByRows}
 use Rattle.shelf.specs.Missing.{is_out, are_columns, keeps}
 use Rattle.shelf.specs.Rosters.{Rostered, out_of, back_in}
 use Rattle.shelf.specs.Checks.{rebuilding}
-use Rattle.shelf.specs.Layouts.{given}
 use Rattle.shelf.specs.Slots.{slot, Room}
-use Rattle.shelf.specs.Reading.{Answers, Heard, after_reads, is_read, once_each}
+use Rattle.shelf.specs.Reading.{Heard, after_reads, is_read, once_each}
 use Rattle.shelf.specs.Recovering.{is_sole_data, slot_for, Found}
 use Rattle.shelf.specs.Regaining.{sole_slot, half_of}
-use Rattle.shelf.specs.Rebuilding.{slot_of, pair_of, Located, slot_block, written, reads_for, reads_of}
+use Rattle.shelf.specs.Rebuilding.{slot_of, pair_of, Located, slot_block, written, reads_for}
 use Rattle.shelf.proofs.Outs.{any_one, any_two_of}
 use Rattle.shelf.proofs.Adding.{has_slot}
 use Rattle.shelf.proofs.Limits.{are_columns-kept}
@@ -301,28 +299,6 @@ module _ (k : ℕ) (right : Rule) (law : Tournament k right) (width : is_width k
 -- ---- what was located, once it is written
 
 module _ (k size : ℕ) (width : is_width k ≡ true) (out : Missing) (cols : are_columns k out ≡ true) (m m₁ : Meaning) (work : List ℕ) (c : ℕ) (o : is_out out c ≡ true) where
-  pub located_reads : (found : Whereabouts) → Located k (published k) size out m c found m₁ work → (f : ℕ → ℕ) × (m₁ ≡ after_reads m f)
-  located_reads Alone h = (half_of k c, (h.alone refl).1)
-  located_reads (ByRows by) h = (once_each k (is_out (pair_of k out)), (h.by_rows by refl).1)
-
-  -- a column that lies so is a data column
-  pub located_data : (found : Whereabouts) → Located k (published k) size out m c found m₁ work → found ≡ Alone → c < k
-  located_data found h e = (sole_data k out c (h.alone e).0 o).0
-
-  pub located_count : (found : Whereabouts) → Located k (published k) size out m c found m₁ work → reads_for k found ≡ reads_of k out
-  located_count Alone h = ap (λ t. cond t ((k + 1) * 2 ^ (k - 2)) (k * rows k)) (sym (h.alone refl).0)
-  located_count (ByRows by) h = ap (λ t. cond t ((k + 1) * 2 ^ (k - 2)) (k * rows k)) (sym (h.by_rows by refl).0)
-
-  -- it answers as before
-  pub located_answers : Heard k size (is_out out) m → m.answers c ≡ true → (found : Whereabouts) → Located k (published k) size out m c found m₁ work → Answers k size m₁ c
-  located_answers heard a found h =
-      subst (λ x. Answers k size x c) (sym (located_reads found h).1)
-      (record {
-        shape = record { wide = heard.shape.wide; tall = heard.shape.tall; deep = heard.shape.deep };
-        column = out_is_column k out c cols o;
-        flag = a;
-      })
-
   pub refilled : Heard k size (is_out out) m → Sized m → Room k size work → (m' : Meaning) (found : Whereabouts) → Located k (published k) size out m c found m₁ work
       → m' ≡ written m₁ c (rows k) (λ i. slot_block size work (slot_of k found c i))
       → Rebuilt k (published k) size (is_out out) m c (reads_for k found) (removed (is_out out) c) m'
@@ -342,10 +318,6 @@ module _ (k size : ℕ) (width : is_width k ≡ true) (out : Missing) (cols : ar
 abbrev pub Refillable : ℕ → ℕ → Missing → Meaning → ℕ → List ℕ → Type 0
 Refillable k size out m c work =
     Room k size work × (Heard k size (is_out out) m × ((m.answers c ≡ true) × ((are_columns k out ≡ true) × (is_out out c ≡ true))))
-
--- its answer
-pub accepted_with : {v : Result (Unit {0}) Fault} {n n' : ℕ} → v ≡ Ok tt → n ≡ n' → Ok n ≡ given v n'
-accepted_with {v} {n} {n'} ok e = ap (λ x. Ok x) e ∙ ap (λ u. given u n') (sym ok)
 
 module _ (r : Rostered) (kept : keeps r.width r.size r.missing ≡ true) (m : Meaning) (c : ℕ) where
   -- what its checks tell

@@ -1,5 +1,5 @@
 -- One row of a data column that alone is out: the tray, the lines and the row's sum.
-use Rattle.std.proofs.Common.{◌≡◌, ℕ, ◌+◌, ◌<◌, Bool, true, false, cond, not, ◌&&◌, eqb, ltb, ◌≢◌, List, length, get_or, sym, refl, ap, ◌∙◌, subst, ap₂, subst₂, arith, eqb-true}
+use Rattle.std.proofs.Common.{◌≡◌, ℕ, ◌+◌, ◌<◌, Bool, true, false, cond, not, ◌&&◌, eqb, ltb, ◌≢◌, List, get_or, sym, refl, ap, ◌∙◌, ap₂, subst₂, arith, eqb-true}
 use lib.Bits.{bit_xor, xor_assoc, xor_zero_r}
 use borrow.Author.Tests.{eq-true, ne_false, lt-true, le-false, eqb-false}
 use Rattle.std.proofs.lemmas.Bool.Decides.{nat_tests}
@@ -15,10 +15,10 @@ use Rattle.code.proofs.Put.{line_spot}
 use Rattle.law.specs.Holding.{held}
 use Rattle.law.specs.Hand.{others, by_row, with_row}
 use Rattle.shelf.specs.Blocks.{Ready}
-use Rattle.shelf.specs.Slots.{slot, row_slot, line_slot, SlotSet, IsSlot, Room, Plus, nothing, holds_but, to_lines}
+use Rattle.shelf.specs.Slots.{slot, row_slot, line_slot, SlotSet, IsSlot, Plus, nothing, holds_but, to_lines}
 use Rattle.shelf.specs.Reading.{after_reads, times}
-use Rattle.shelf.specs.Regaining.{Alone, once_below, of_rows, row_of, below, lines_but, unless, RowFound}
-use Rattle.shelf.proofs.Adding.{room_kept, plus_none, plus_same, plus_plus}
+use Rattle.shelf.specs.Regaining.{Alone, once_below, row_of, below, lines_but, unless, RowFound}
+use Rattle.shelf.proofs.Adding.{plus_none, plus_same, plus_plus}
 use Rattle.shelf.proofs.Gathering.{reads_none, reads_same, reads_reads, column_none, column_more}
 
 -- ---- the tray
@@ -32,22 +32,6 @@ may_read k size m j a c i n cl ne il e =
       long = e ∙ sym a.heard.shape.deep;
       answers = a.heard.answers c cl (sym (ne_false j c (λ h. ne (sym h))));
     }
-
--- reads change nothing of that
-pub alone_reads : (k size s : ℕ) (m m' : Meaning) (j : ℕ) (f : ℕ → ℕ) → s ≡ size → m' ≡ after_reads m f → Alone k size m j → Alone k s m' j
-alone_reads k size s m m' j f h e a =
-    subst₂ (λ x y. Alone k x y j) (sym h) (sym e)
-    (record {
-      column = a.column;
-      heard = record {
-        shape = record { wide = a.heard.shape.wide; tall = a.heard.shape.tall; deep = a.heard.shape.deep };
-        answers = a.heard.answers;
-      };
-    })
-
--- nor of the work space's room
-pub room_still : (k size s : ℕ) (was work : List ℕ) → s ≡ size → length work ≡ length was → Room k size was → Room k s work
-room_still k size s was work h e room = subst (λ x. Room k x work) (sym h) (room_kept k size was work room e)
 
 -- one read
 pub read_one : (m : Meaning) (c : ℕ) → Wraps m → tallied m c ≡ after_reads m (times c 1)
@@ -65,10 +49,6 @@ once_none m j w = reads_none m w ∙ reads_same m (λ _. 0) (once_below j 0) (λ
 
 pub once_more : (j t c : ℕ) → once_below j t c + times t (cond (eqb t j) 0 1) c ≡ once_below j (t + 1) c
 once_more j t c = grind (arith, nat_tests)
-
--- the block of the horizontal column, and then those of the data columns
-pub row_reads : (k j c : ℕ) → j < k → times k 1 c + once_below j k c ≡ of_rows k j 1 c
-row_reads k j c l = grind (arith, nat_tests)
 
 -- ---- lines
 

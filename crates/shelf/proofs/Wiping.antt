@@ -4,7 +4,7 @@ use mathlib.Core.Path.{fun_ext}
 use Rattle.std.proofs.lemmas.Bool.Decides.{nat_tests}
 use Rattle.tray.specs.Meaning.{Meaning, stored}
 use Rattle.shelf.specs.Blocks.{Ready}
-use Rattle.shelf.specs.Wiped.{holding, wiped_column, wiped}
+use Rattle.shelf.specs.Wiped.{holding, wiped_column}
 
 module _ (m : Meaning) (block : List ℕ) where
   same_blocks : (f g : ℕ → ℕ → List ℕ) → ((j i : ℕ) → f j i ≡ g j i) → holding m f ≡ holding m g
@@ -15,12 +15,6 @@ module _ (m : Meaning) (block : List ℕ) where
 
   pub column_more : (c n : ℕ) → stored (wiped_column m c n block) c n block ≡ wiped_column m c (n + 1) block
   column_more c n = same_blocks _ _ (λ j i. grind (arith, nat_tests))
-
-  pub wiped_none : (n : ℕ) → m ≡ wiped m 0 n block
-  wiped_none n = same_blocks m.block _ (λ j i. grind (arith, nat_tests))
-
-  pub wiped_more : (w n : ℕ) → wiped_column (wiped m w n block) w n block ≡ wiped m (w + 1) n block
-  wiped_more w n = same_blocks _ _ (λ j i. grind (arith, nat_tests))
 
 -- other blocks leave a tray ready
 pub ready_still : (m m' : Meaning) (blocks : ℕ → ℕ → List ℕ) (c i n : ℕ) → m' ≡ holding m blocks → Ready m c i n → Ready m' c i n
