@@ -2,9 +2,9 @@
 // be read with every later one.
 #[cfg(test)]
 mod tests {
-    use crate::rounds::tests::{block_at, fill, mark};
-    use code::widths::rows_of;
+    use crate::rounds::tests::{Rig, SHAPE_3, SHAPE_5};
     use shelf::roster::Roster;
+    use std::process::Abort;
     use std::test::Fail;
     use tray::fault::Fault;
     use tray::flat::Flat;
@@ -35,82 +35,62 @@ mod tests {
     ];
 
     // Puts to every place, loses a data column and the horizontal one, puts to the even rows again, and rebuilds both.
-    fn written<T: Tray>(tray: &mut T, k: u32, work: &mut [u8]) -> Result<Roster, Fault> {
-        let mut roster = Roster::layout(tray, k, 2)?;
-        fill(&roster, tray, k, 1, work)?;
-        roster.pull(1)?;
-        roster.pull(k)?;
-        for column in 0..k {
-            for row in (0..rows_of(k)).step_by(2) {
-                roster.put(tray, column, row, &mark(2, column, row), work)?;
-            }
-        }
-        let _ = roster.rebuild(tray, 1, work)?;
-        let _ = roster.rebuild(tray, k, work)?;
-        Ok(roster)
+    fn write<T: Tray>(tray: &mut T, k: u32, work: &mut [u8]) -> Result<Roster, Fault> {
+        let mut rig = Rig::layout(tray, k, 2, work)?;
+        rig.fill(1, |_| true)?;
+        rig.pull(1)?;
+        rig.pull(k)?;
+        rig.fill(2, |row| row % 2 == 0)?;
+        let _ = rig.rebuild(1)?;
+        let _ = rig.rebuild(k)?;
+        Ok(rig.roster)
     }
 
     // Reads every data block back with one column out, and rebuilds it.
-    fn is_read<T: Tray>(
-        roster: &mut Roster,
+    fn read<T: Tray>(
+        rt: &impl Abort,
+        roster: Roster,
         tray: &mut T,
         k: u32,
         work: &mut [u8],
-    ) -> Result<bool, Fault> {
-        roster.pull(0)?;
-        let mut right = true;
-        for column in 0..k {
-            for row in 0..rows_of(k) {
-                let round = if row % 2 == 0 { 2 } else { 1 };
-                right = right
-                    && block_at(roster, tray, column, row, work)? == mark(round, column, row);
-            }
-        }
-        let _ = roster.rebuild(tray, 0, work)?;
-        Ok(right && roster.sweep(tray, work)? == None)
+    ) -> Result<(), Fault> {
+        let mut rig = Rig {
+            roster,
+            tray,
+            k,
+            work,
+        };
+        rig.pull(0)?;
+        rig.holds(rt, |row| if row % 2 == 0 { 2 } else { 1 })?;
+        let _ = rig.rebuild(0)?;
+        assert_eq!(rt; rig.sweep()?, None);
+        Ok(())
+    }
+
+    // What is written comes to these bytes, and is read back from them.
+    fn is_written_and_read<const LEN: usize>(
+        rt: &impl Abort,
+        shape: Shape,
+        k: u32,
+        image: [u8; LEN],
+        work: &mut [u8],
+    ) -> Result<(), Fault> {
+        let mut memory = [0u8; LEN];
+        let roster = write(&mut Flat::new(shape, &mut memory), k, work)?;
+        assert_eq!(rt; memory, image);
+        let mut stored = image;
+        read(rt, roster, &mut Flat::new(shape, &mut stored), k, work)
     }
 
     #[test]
     fn a_shelf_of_width_3_is_written_and_read(rt: HostRuntime) -> Result<(), Fail> {
-        let mut work = [0u8; 16];
-        let mut memory = [0u8; 40];
-        let mut roster = written(
-            &mut Flat::new(Shape::new(5, 4, 2), &mut memory),
-            3,
-            &mut work,
-        )?;
-        assert_eq!(rt; memory, WIDTH_3);
-        let mut stored = WIDTH_3;
-        assert!(rt;
-            is_read(
-                &mut roster,
-                &mut Flat::new(Shape::new(5, 4, 2), &mut stored),
-                3,
-                &mut work,
-            )?
-        );
+        is_written_and_read(&rt, SHAPE_3, 3, WIDTH_3, &mut [0; 16])?;
         Ok(())
     }
 
     #[test]
     fn a_shelf_of_width_5_is_written_and_read(rt: HostRuntime) -> Result<(), Fail> {
-        let mut work = [0u8; 64];
-        let mut memory = [0u8; 224];
-        let mut roster = written(
-            &mut Flat::new(Shape::new(7, 16, 2), &mut memory),
-            5,
-            &mut work,
-        )?;
-        assert_eq!(rt; memory, WIDTH_5);
-        let mut stored = WIDTH_5;
-        assert!(rt;
-            is_read(
-                &mut roster,
-                &mut Flat::new(Shape::new(7, 16, 2), &mut stored),
-                5,
-                &mut work,
-            )?
-        );
+        is_written_and_read(&rt, SHAPE_5, 5, WIDTH_5, &mut [0; 64])?;
         Ok(())
     }
 }

@@ -1,36 +1,41 @@
 // The limits of a shelf, and what stands in its parities.
 #[cfg(test)]
 mod tests {
+    use crate::rounds::tests::Rig;
     use shelf::roster::Roster;
     use std::test::Fail;
     use tray::fault::{Fault, Refusal};
     use tray::flat::Flat;
     use tray::trays::{Shape, Tray};
 
-    // The number of the refusal that a layout gets on a tray of its own shape, or 0.
-    fn refused(k: u32, size: u32, columns: u32, rows: u32, memory: &mut [u8]) -> u8 {
-        match Roster::layout(
-            &mut Flat::new(Shape::new(columns, rows, size), memory),
-            k,
-            size,
-        ) {
-            Ok(_) => 0,
-            Err(fault) => fault.refusal.number(),
-        }
+    // Lays a shelf of width k out on a tray of this shape, with the tray's block size.
+    fn lay_out(k: u32, shape: Shape, memory: &mut [u8]) -> Result<(), Fault> {
+        let _ = Roster::layout(&mut Flat::new(shape, memory), k, shape.size)?;
+        Ok(())
     }
 
     #[test]
     fn widths_and_sizes_have_limits(rt: HostRuntime) -> Result<(), Fail> {
         let mut memory = vec![in rt.alloc(); 0u8; 13 * 1024 * 512]?;
-        assert_eq!(rt; refused(11, 512, 13, 1024, memory.as_mut_slice()), 0);
-        assert_eq!(rt; refused(3, 1, 5, 4, memory.as_mut_slice()), 0);
-        for k in [0, 1, 2, 4, 12, 13] {
-            assert_eq!(rt; refused(k, 1, 5, 4, memory.as_mut_slice()), 5);
+        let outside = Err(Fault::shelf(Refusal::OutsideLimits, None, None));
+        let differs = Err(Fault::shelf(Refusal::ShapeDiffers, None, None));
+        let cases = [
+            (11, Shape::new(13, 1024, 512), Ok(())),
+            (3, Shape::new(5, 4, 1), Ok(())),
+            (0, Shape::new(5, 4, 1), outside),
+            (1, Shape::new(5, 4, 1), outside),
+            (2, Shape::new(5, 4, 1), outside),
+            (4, Shape::new(5, 4, 1), outside),
+            (12, Shape::new(5, 4, 1), outside),
+            (13, Shape::new(5, 4, 1), outside),
+            (3, Shape::new(5, 4, 0), outside),
+            (3, Shape::new(5, 4, 513), outside),
+            (3, Shape::new(6, 4, 1), differs),
+            (3, Shape::new(5, 8, 1), differs),
+        ];
+        for (k, shape, outcome) in cases {
+            assert_eq!(rt; lay_out(k, shape, &mut memory), outcome);
         }
-        assert_eq!(rt; refused(3, 0, 5, 4, memory.as_mut_slice()), 5);
-        assert_eq!(rt; refused(3, 513, 5, 4, memory.as_mut_slice()), 5);
-        assert_eq!(rt; refused(3, 1, 6, 4, memory.as_mut_slice()), 11);
-        assert_eq!(rt; refused(3, 1, 5, 8, memory.as_mut_slice()), 11);
         Ok(())
     }
 
@@ -49,13 +54,15 @@ mod tests {
 
     const PARITIES: [[u8; 4]; 2] = [[0x12, 0x27, 0x4d, 0x99], [0x33, 0x1a, 0xa0, 0x5b]];
 
-    fn put_stripe<T: Tray>(roster: &Roster, tray: &mut T, work: &mut [u8]) -> Result<(), Fault> {
+    // Puts the worked stripe on a fresh shelf.
+    fn put_stripe<'a, T: Tray>(tray: &'a mut T, work: &'a mut [u8]) -> Result<Rig<'a, T>, Fault> {
+        let mut rig = Rig::layout(tray, 3, 1, work)?;
         for (column, blocks) in (0u32..).zip(DATA) {
             for (row, block) in (0u32..).zip(blocks) {
-                roster.put(tray, column, row, &[block], work)?;
+                rig.put(column, row, &[block])?;
             }
         }
-        Ok(())
+        Ok(rig)
     }
 
     #[test]
@@ -63,31 +70,32 @@ mod tests {
         let mut memory = [0u8; 20];
         let mut work = [0u8; 8];
         let mut tray = Flat::new(Shape::new(5, 4, 1), &mut memory);
-        let roster = Roster::layout(&mut tray, 3, 1)?;
-        put_stripe(&roster, &mut tray, &mut work)?;
+        let rig = put_stripe(&mut tray, &mut work)?;
         for (column, blocks) in (3u32..).zip(PARITIES) {
             for (row, block) in (0u32..).zip(blocks) {
-                assert_eq!(rt; byte_at(&mut tray, column, row)?, block);
+                assert_eq!(rt; byte_at(rig.tray, column, row)?, block);
             }
         }
         Ok(())
     }
 
+    // Bytes that are written over one after another, and the place that a sweep then finds.
     #[test]
     fn a_sweep_finds_the_first_place_that_does_not_fit(rt: HostRuntime) -> Result<(), Fail> {
         let mut memory = [0u8; 20];
         let mut work = [0u8; 8];
         let mut tray = Flat::new(Shape::new(5, 4, 1), &mut memory);
-        let roster = Roster::layout(&mut tray, 3, 1)?;
-        put_stripe(&roster, &mut tray, &mut work)?;
-        tray.write(4, 2, &[0xff])?;
-        assert_eq!(rt; roster.sweep(&mut tray, &mut work)?, Some((4, 2)));
-        tray.write(4, 1, &[0xff])?;
-        assert_eq!(rt; roster.sweep(&mut tray, &mut work)?, Some((4, 1)));
-        tray.write(3, 3, &[0xff])?;
-        assert_eq!(rt; roster.sweep(&mut tray, &mut work)?, Some((3, 3)));
-        tray.write(0, 2, &[0xff])?;
-        assert_eq!(rt; roster.sweep(&mut tray, &mut work)?, Some((3, 2)));
+        let mut rig = put_stripe(&mut tray, &mut work)?;
+        let cases = [
+            (4, 2, (4, 2)),
+            (4, 1, (4, 1)),
+            (3, 3, (3, 3)),
+            (0, 2, (3, 2)),
+        ];
+        for (column, row, found) in cases {
+            rig.tray.write(column, row, &[0xff])?;
+            assert_eq!(rt; rig.sweep()?, Some(found));
+        }
         Ok(())
     }
 }

@@ -1,10 +1,10 @@
 // Every pair of columns out, at widths 3 and 5, on a flat tray, on a split tray and on a cabinet.
 #[cfg(test)]
 mod tests {
-    use crate::rounds::tests::{fill, holds};
+    use crate::rounds::tests::{Rig, SHAPE_3, SHAPE_5};
     use cabinet::cabinets::Cabinet;
     use code::widths::rows_of;
-    use shelf::roster::Roster;
+    use std::process::Abort;
     use std::test::Fail;
     use tray::fault::Fault;
     use tray::flat::Flat;
@@ -13,55 +13,48 @@ mod tests {
 
     // Puts, loses two columns, reads and puts on, rebuilds them, and sweeps.
     fn round_trip<T: Tray>(
+        rt: &impl Abort,
         tray: &mut T,
         k: u32,
         a: u32,
         b: u32,
         work: &mut [u8],
-    ) -> Result<bool, Fault> {
-        let mut roster = Roster::layout(tray, k, 2)?;
-        fill(&roster, tray, k, 1, work)?;
-        roster.pull(a)?;
-        roster.pull(b)?;
-        let lost = holds(&roster, tray, k, 1, work)?;
-        fill(&roster, tray, k, 2, work)?;
-        let changed = holds(&roster, tray, k, 2, work)?;
-        let reads = roster.rebuild(tray, a, work)?;
-        let one_left = holds(&roster, tray, k, 2, work)?;
-        let _ = roster.rebuild(tray, b, work)?;
-        let back = holds(&roster, tray, k, 2, work)?;
-        let clean = roster.sweep(tray, work)? == None;
-        Ok(lost && changed && reads == k.wrapping_mul(rows_of(k)) && one_left && back && clean)
+    ) -> Result<(), Fault> {
+        let mut rig = Rig::layout(tray, k, 2, work)?;
+        rig.fill(1, |_| true)?;
+        rig.pull(a)?;
+        rig.pull(b)?;
+        rig.holds(rt, |_| 1)?;
+        rig.fill(2, |_| true)?;
+        rig.holds(rt, |_| 2)?;
+        assert_eq!(rt; rig.rebuild(a)?, k.wrapping_mul(rows_of(k)));
+        rig.holds(rt, |_| 2)?;
+        let _ = rig.rebuild(b)?;
+        rig.holds(rt, |_| 2)?;
+        assert_eq!(rt; rig.sweep()?, None);
+        Ok(())
     }
 
-    fn all_pairs<T: Tray>(tray: &mut T, k: u32, work: &mut [u8]) -> Result<bool, Fault> {
-        let mut right = true;
+    fn all_pairs<T: Tray>(
+        rt: &impl Abort,
+        tray: &mut T,
+        k: u32,
+        work: &mut [u8],
+    ) -> Result<(), Fault> {
         for a in 0..k.saturating_add(2) {
             for b in 0..a {
-                right = right && round_trip(tray, k, a, b, work)?;
+                round_trip(rt, tray, k, a, b, work)?;
             }
         }
-        Ok(right)
+        Ok(())
     }
 
     #[test]
     fn every_pair_comes_back_on_a_flat_tray(rt: HostRuntime) -> Result<(), Fail> {
         let mut work = [0u8; 64];
         let mut memory = [0u8; 224];
-        assert!(rt;
-            all_pairs(
-                &mut Flat::new(Shape::new(5, 4, 2), &mut memory),
-                3,
-                &mut work
-            )?
-        );
-        assert!(rt;
-            all_pairs(
-                &mut Flat::new(Shape::new(7, 16, 2), &mut memory),
-                5,
-                &mut work
-            )?
-        );
+        all_pairs(&rt, &mut Flat::new(SHAPE_3, &mut memory), 3, &mut work)?;
+        all_pairs(&rt, &mut Flat::new(SHAPE_5, &mut memory), 5, &mut work)?;
         Ok(())
     }
 
@@ -70,18 +63,13 @@ mod tests {
         let mut work = [0u8; 64];
         let mut left = [0u8; 96];
         let mut right = [0u8; 128];
-        assert!(rt;
-            all_pairs(
-                &mut Split::new(
-                    Flat::new(Shape::new(3, 16, 2), &mut left),
-                    Flat::new(Shape::new(4, 16, 2), &mut right),
-                ),
-                5,
-                &mut work,
-            )?
+        let mut split = Split::new(
+            Flat::new(Shape::new(3, 16, 2), &mut left),
+            Flat::new(Shape::new(4, 16, 2), &mut right),
         );
-        let mut cabinet = Cabinet::new(rt.alloc(), Shape::new(5, 4, 2))?;
-        assert!(rt; all_pairs(&mut cabinet, 3, &mut work)?);
+        all_pairs(&rt, &mut split, 5, &mut work)?;
+        let mut cabinet = Cabinet::new(rt.alloc(), SHAPE_3)?;
+        all_pairs(&rt, &mut cabinet, 3, &mut work)?;
         Ok(())
     }
 }

@@ -1,13 +1,27 @@
-// What tests put on a shelf and look for.
+// A shelf under test, what tests put on it, and what they look for.
 #[cfg(test)]
 pub mod tests {
     use code::widths::rows_of;
     use shelf::roster::Roster;
+    use std::process::Abort;
     use tray::fault::Fault;
-    use tray::trays::Tray;
+    use tray::trays::{Shape, Tray};
+
+    // The shapes of trays for shelves of width 3 and 5, with blocks of two bytes.
+    pub const SHAPE_3: Shape = Shape {
+        columns: 5,
+        rows: 4,
+        size: 2,
+    };
+
+    pub const SHAPE_5: Shape = Shape {
+        columns: 7,
+        rows: 16,
+        size: 2,
+    };
 
     // A block that tells its place and the round that it was put in.
-    pub fn mark(round: u32, column: u32, row: u32) -> [u8; 2] {
+    fn mark(round: u32, column: u32, row: u32) -> [u8; 2] {
         let place = round.wrapping_mul(101) ^ column.wrapping_mul(32) ^ row;
         [
             (place & 0xff) as u8,
@@ -15,47 +29,82 @@ pub mod tests {
         ]
     }
 
-    pub fn fill<T: Tray>(
-        roster: &Roster,
-        tray: &mut T,
-        k: u32,
-        round: u32,
-        work: &mut [u8],
-    ) -> Result<(), Fault> {
-        for column in 0..k {
-            for row in 0..rows_of(k) {
-                roster.put(tray, column, row, &mark(round, column, row), work)?;
-            }
-        }
-        Ok(())
+    // A shelf under test: a roster of width `k`, with the tray and the work space that its calls are lent.
+    #[derive(Drop)]
+    pub struct Rig<'a, T> {
+        pub roster: Roster,
+        pub tray: &'a mut T,
+        pub k: u32,
+        pub work: &'a mut [u8],
     }
 
-    pub fn block_at<T: Tray>(
-        roster: &Roster,
-        tray: &mut T,
-        column: u32,
-        row: u32,
-        work: &mut [u8],
-    ) -> Result<[u8; 2], Fault> {
-        let mut block = [0u8; 2];
-        roster.get(tray, column, row, &mut block, work)?;
-        Ok(block)
-    }
-
-    pub fn holds<T: Tray>(
-        roster: &Roster,
-        tray: &mut T,
-        k: u32,
-        round: u32,
-        work: &mut [u8],
-    ) -> Result<bool, Fault> {
-        let mut right = true;
-        for column in 0..k {
-            for row in 0..rows_of(k) {
-                right = right
-                    && block_at(roster, tray, column, row, work)? == mark(round, column, row);
-            }
+    impl<'a, T: Tray> Rig<'a, T> {
+        // A shelf that is freshly laid out, with blocks of `size` bytes.
+        pub fn layout(
+            tray: &'a mut T,
+            k: u32,
+            size: u32,
+            work: &'a mut [u8],
+        ) -> Result<Rig<'a, T>, Fault> {
+            let roster = Roster::layout(tray, k, size)?;
+            Ok(Rig {
+                roster,
+                tray,
+                k,
+                work,
+            })
         }
-        Ok(right)
+
+        // Here and below the work space is lent before the rest, since a later loan has no rule in the proof yet.
+        pub fn put(&mut self, column: u32, row: u32, block: &[u8]) -> Result<(), Fault> {
+            let work = &mut *self.work;
+            self.roster.put(self.tray, column, row, block, work)
+        }
+
+        // Puts the marks of a round to every data column, in the rows that `rows` takes.
+        pub fn fill<F: Fn(u32) -> bool>(&mut self, round: u32, rows: F) -> Result<(), Fault>
+            requires { F.IsAlwaysCallable rows }
+        {
+            for column in 0..self.k {
+                for row in 0..rows_of(self.k) {
+                    if rows(row) {
+                        self.put(column, row, &mark(round, column, row))?;
+                    }
+                }
+            }
+            Ok(())
+        }
+
+        fn block_at(&mut self, column: u32, row: u32) -> Result<[u8; 2], Fault> {
+            let mut block = [0u8; 2];
+            let work = &mut *self.work;
+            self.roster.get(self.tray, column, row, &mut block, work)?;
+            Ok(block)
+        }
+
+        // Every data block is read back as the mark of the round that `round` gives for its row.
+        pub fn holds<F: Fn(u32) -> u32>(&mut self, rt: &impl Abort, round: F) -> Result<(), Fault>
+            requires { F.IsAlwaysCallable round }
+        {
+            for column in 0..self.k {
+                for row in 0..rows_of(self.k) {
+                    assert_eq!(rt; self.block_at(column, row)?, mark(round(row), column, row));
+                }
+            }
+            Ok(())
+        }
+
+        pub fn pull(&mut self, column: u32) -> Result<(), Fault> {
+            self.roster.pull(column)
+        }
+
+        pub fn rebuild(&mut self, column: u32) -> Result<u32, Fault> {
+            self.roster.rebuild(self.tray, column, self.work)
+        }
+
+        pub fn sweep(&mut self) -> Result<Option<(u32, u32)>, Fault> {
+            let work = &mut *self.work;
+            self.roster.sweep(self.tray, work)
+        }
     }
 }
