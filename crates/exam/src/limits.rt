@@ -34,7 +34,11 @@ mod tests {
             (3, Shape::new(5, 8, 1), differs),
         ];
         for (k, shape, outcome) in cases {
-            assert_eq!(rt; lay_out(k, shape, &mut memory), outcome);
+            assert_eq!(rt;
+                lay_out(k, shape, &mut memory),
+                outcome,
+                "width {k} on {shape:?}"
+            );
         }
         Ok(())
     }
@@ -94,7 +98,7 @@ mod tests {
         ];
         for (column, row, found) in cases {
             rig.tray.write(column, row, &[0xff])?;
-            assert_eq!(rt; rig.sweep()?, Some(found));
+            assert_eq!(rt; rig.sweep()?, Some(found), "after ({column}, {row})");
         }
         Ok(())
     }

@@ -55,7 +55,8 @@ pub mod tests {
             })
         }
 
-        // Here and below the work space is lent before the rest, since a later loan has no rule in the proof yet.
+        // The work space is lent before the roster, here and in the other calls that only look at the roster: a later loan of it has no
+        // rule in the proof yet.
         pub fn put(&mut self, column: u32, row: u32, block: &[u8]) -> Result<(), Fault> {
             let work = &mut *self.work;
             self.roster.put(self.tray, column, row, block, work)
@@ -88,7 +89,12 @@ pub mod tests {
         {
             for column in 0..self.k {
                 for row in 0..rows_of(self.k) {
-                    assert_eq!(rt; self.block_at(column, row)?, mark(round(row), column, row));
+                    let block = self.block_at(column, row)?;
+                    assert_eq!(rt;
+                        block,
+                        mark(round(row), column, row),
+                        "at ({column}, {row})"
+                    );
                 }
             }
             Ok(())
