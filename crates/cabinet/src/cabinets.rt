@@ -1,5 +1,5 @@
 // The cabinet: its shape, and a drawer for each column.
-ghost use Rattle.std.specs.Prelude.{◌≡◌, ◌<◌, length, All, IfOk};
+ghost use Rattle.std.specs.Prelude.{◌≡◌, length, All, IfOk};
 ghost use Rattle.tray.specs.Meaning.{Ready, tallied, stored};
 ghost use Rattle.cabinet.specs.Drawers.{IsFresh, Stocked};
 

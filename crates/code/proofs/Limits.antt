@@ -1,5 +1,5 @@
 -- What a width is.
-use Rattle.std.proofs.Common.{◌≡◌, ℕ, ◌-◌, ◌%◌, ◌<◌, ◌≤◌, true, ◌&&◌, ltb, arith, pow_pos, pow_mono}
+use Rattle.std.proofs.Common.{◌≡◌, ℕ, ◌-◌, ◌%◌, ◌≤◌, true, ◌&&◌, ltb, arith, pow_mono}
 use Rattle.std.proofs.lemmas.Bool.{and_parts}
 use Rattle.std.proofs.lemmas.Bool.Decides.{nat_tests}
 use Rattle.code.specs.Code.{rows}
@@ -28,10 +28,6 @@ law_of_width k e = odd_widths k (a_width k e).odd
 pub few_rows : (k : ℕ) → is_width k ≡ true → rows k ≤ 1024
 unfolding rows
 few_rows k e = let w = a_width k e in pow_mono {i = k - 1} {j = 10} (omega arith)
-
-pub some_rows : (k : ℕ) → 0 < rows k
-unfolding rows
-some_rows k = pow_pos (k - 1)
 
 pub line_width : (k n : ℕ) → is_line k n ≡ true → is_width k ≡ true
 line_width k n e = (and_parts (is_width k) (ltb n (rows k)) e).0

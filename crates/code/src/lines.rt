@@ -1,10 +1,9 @@
 // What lines sum.
-ghost use Rattle.std.specs.Prelude.{◌≡◌, ℕ, ◌≤◌, true, [], ◌++◌, IfOk, if◌then◌else◌, OnOk};
-ghost use Rattle.code.specs.Numbers.{those};
+ghost use Rattle.std.specs.Prelude.{◌≡◌, ℕ, true, [], IfOk, if◌then◌else◌};
 ghost use Rattle.code.specs.Widths.{is_line, is_place};
 ghost use Rattle.code.specs.Code.{Blocks, butterfly};
 ghost use Rattle.code.specs.Neighbours.{published};
-ghost use Rattle.code.specs.Lines.{takes, holds, among, lines_of, in_row, places_of, sum_of};
+ghost use Rattle.code.specs.Lines.{takes, holds, among, lines_of, places_of, sum_of};
 ghost use Rattle.code.specs.Numbered.{numbers};
 
 use crate::neighbours::is_right;
@@ -43,6 +42,7 @@ pub fn places_of(heap: Global, k: u32, line: Line) -> Result<Vec<(u32, u32)>, Al
         return Ok(Vec::new(heap));
     }
     let mut places = Vec::new(heap);
+    // no `flat_map`: the proof does not see what its closure makes of the chain inside
     for through in 0..k {
         let row = line.meeting(through);
         places.extend(

@@ -1,5 +1,5 @@
 // Widths: how many data columns a shelf may have, and how many rows its columns have.
-ghost use Rattle.std.specs.Prelude.{◌≡◌, ◌≤◌, true, if◌then◌else◌, Option, IfSome, IsSome, ◌↔◌};
+ghost use Rattle.std.specs.Prelude.{◌≡◌, ◌≤◌, true, if◌then◌else◌, IfSome, IsSome, ◌↔◌};
 ghost use Rattle.code.specs.Code.{rows};
 ghost use Rattle.code.specs.Widths.{is_width};
 
@@ -47,11 +47,11 @@ impl Width {
     }
 
     // The rows of each column, which are also its lines.
-    #[tactic(auto, using(crate::proofs::Limits::few_rows))]
+    #[tactic(auto, using(crate::proofs::Limits::few_rows), unfolding(crate::specs::Code::rows))]
     pub fn rows(self) -> u32
         ensures value { result ≡ rows self.number }
         ensures few { result ≤ 1024 }
     {
-        rows_of(self.number)
+        1 << (self.number - 1)
     }
 }

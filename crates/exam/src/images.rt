@@ -1,5 +1,5 @@
-// Images of a shelf's memory after a fixed run of calls, worked out by another program: shelves that were written with one kit have to
-// be read with every later one.
+// Images of a shelf's memory after a fixed run of calls, worked out by another program: shelves that were written with one
+// kit have to be read with every later one.
 #[cfg(test)]
 mod tests {
     use crate::rounds::tests::{Rig, SHAPE_3, SHAPE_5};
@@ -41,8 +41,8 @@ mod tests {
         rig.pull(1)?;
         rig.pull(k)?;
         rig.fill(2, |row| row % 2 == 0)?;
-        let _ = rig.rebuild(1)?;
-        let _ = rig.rebuild(k)?;
+        rig.rebuild(1)?;
+        rig.rebuild(k)?;
         Ok(rig.roster)
     }
 
@@ -62,7 +62,7 @@ mod tests {
         };
         rig.pull(0)?;
         rig.holds(rt, |row| if row % 2 == 0 { 2 } else { 1 })?;
-        let _ = rig.rebuild(0)?;
+        rig.rebuild(0)?;
         assert_eq!(rt; rig.sweep()?, None);
         Ok(())
     }

@@ -29,7 +29,7 @@ mod tests {
         rig.holds(rt, |_| 2)?;
         assert_eq!(rt; rig.rebuild(a)?, k.wrapping_mul(rows_of(k)));
         rig.holds(rt, |_| 2)?;
-        let _ = rig.rebuild(b)?;
+        rig.rebuild(b)?;
         rig.holds(rt, |_| 2)?;
         assert_eq!(rt; rig.sweep()?, None);
         Ok(())

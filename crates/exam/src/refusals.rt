@@ -7,29 +7,31 @@ mod tests {
     use tray::flat::Flat;
     use tray::trays::Shape;
 
-    fn told(refusal: Refusal, column: u32) -> Fault {
-        Fault::shelf(refusal, Some(column), None)
-    }
-
-    fn told_place(refusal: Refusal, column: u32, row: u32) -> Fault {
-        Fault::shelf(refusal, Some(column), Some(row))
+    fn told(refusal: Refusal, column: u32, row: Option<u32>) -> Fault {
+        Fault::shelf(refusal, Some(column), row)
     }
 
     #[test]
     fn pulls_and_drills(rt: HostRuntime) -> Result<(), Fail> {
         let mut memory = [0u8; 20];
         let mut roster = Roster::layout(&mut Flat::new(Shape::new(5, 4, 1), &mut memory), 3, 1)?;
-        assert_eq!(rt; roster.pull(5), Err(told(Refusal::ColumnTooHigh, 5)));
+        assert_eq!(rt; roster.pull(5), Err(told(Refusal::ColumnTooHigh, 5, None)));
         roster.pull(1)?;
-        assert_eq!(rt; roster.pull(1), Err(told(Refusal::AlreadyOut, 1)));
-        assert_eq!(rt; roster.drill(1).taken(), Err(told(Refusal::AlreadyOut, 1)));
+        assert_eq!(rt; roster.pull(1), Err(told(Refusal::AlreadyOut, 1, None)));
+        assert_eq!(rt;
+            roster.drill(1).taken(),
+            Err(told(Refusal::AlreadyOut, 1, None))
+        );
         assert_eq!(rt; roster.drill(4).taken(), Ok(()));
         roster.pull(4)?;
-        assert_eq!(rt; roster.pull(0), Err(told(Refusal::TwoOut, 0)));
-        assert_eq!(rt; roster.drill(0).taken(), Err(told(Refusal::TwoOut, 0)));
+        assert_eq!(rt; roster.pull(0), Err(told(Refusal::TwoOut, 0, None)));
+        assert_eq!(rt;
+            roster.drill(0).taken(),
+            Err(told(Refusal::TwoOut, 0, None))
+        );
         assert_eq!(rt;
             roster.drill(5).taken(),
-            Err(told(Refusal::ColumnTooHigh, 5))
+            Err(told(Refusal::ColumnTooHigh, 5, None))
         );
         Ok(())
     }
@@ -45,19 +47,19 @@ mod tests {
         let mut wrong = Flat::new(Shape::new(5, 4, 1), &mut other);
         assert_eq!(rt;
             roster.get(&mut wrong, 9, 9, &mut block, &mut work),
-            Err(told_place(Refusal::ShapeDiffers, 9, 9))
+            Err(told(Refusal::ShapeDiffers, 9, Some(9)))
         );
         assert_eq!(rt;
             roster.get(&mut tray, 3, 9, &mut block, &mut work),
-            Err(told_place(Refusal::ColumnTooHigh, 3, 9))
+            Err(told(Refusal::ColumnTooHigh, 3, Some(9)))
         );
         assert_eq!(rt;
             roster.get(&mut tray, 2, 4, &mut block, &mut work),
-            Err(told_place(Refusal::RowTooHigh, 2, 4))
+            Err(told(Refusal::RowTooHigh, 2, Some(4)))
         );
         assert_eq!(rt;
             roster.get(&mut tray, 2, 3, &mut [0], &mut [0]),
-            Err(told_place(Refusal::WrongBuffer, 2, 3))
+            Err(told(Refusal::WrongBuffer, 2, Some(3)))
         );
         assert_eq!(rt; block, [7, 7]);
         Ok(())
@@ -71,7 +73,7 @@ mod tests {
         let roster = Roster::layout(&mut tray, 3, 2)?;
         assert_eq!(rt;
             roster.put(&mut tray, 2, 3, &[1, 2], &mut [0; 15]),
-            Err(told_place(Refusal::ShortWork, 2, 3))
+            Err(told(Refusal::ShortWork, 2, Some(3)))
         );
         tray.switch(4, false)?;
         tray.switch(1, false)?;
@@ -95,19 +97,19 @@ mod tests {
         let mut wrong = Flat::new(Shape::new(5, 4, 2), &mut other);
         assert_eq!(rt;
             roster.rebuild(&mut wrong, 5, &mut work),
-            Err(told(Refusal::ShapeDiffers, 5))
+            Err(told(Refusal::ShapeDiffers, 5, None))
         );
         assert_eq!(rt;
             roster.rebuild(&mut tray, 5, &mut [0]),
-            Err(told(Refusal::ColumnTooHigh, 5))
+            Err(told(Refusal::ColumnTooHigh, 5, None))
         );
         assert_eq!(rt;
             roster.rebuild(&mut tray, 4, &mut [0; 7]),
-            Err(told(Refusal::ShortWork, 4))
+            Err(told(Refusal::ShortWork, 4, None))
         );
         assert_eq!(rt;
             roster.rebuild(&mut tray, 4, &mut work),
-            Err(told(Refusal::NotOut, 4))
+            Err(told(Refusal::NotOut, 4, None))
         );
         assert_eq!(rt;
             roster.sweep(&mut tray, &mut [0; 7]),

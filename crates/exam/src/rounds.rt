@@ -55,8 +55,8 @@ pub mod tests {
             })
         }
 
-        // The work space is lent before the roster, here and in the other calls that only look at the roster: a later loan of it has no
-        // rule in the proof yet.
+        // The work space is lent before the roster, here and in the other calls that only look at the roster: a later loan
+        // of it has no rule in the proof yet.
         pub fn put(&mut self, column: u32, row: u32, block: &[u8]) -> Result<(), Fault> {
             let work = &mut *self.work;
             self.roster.put(self.tray, column, row, block, work)

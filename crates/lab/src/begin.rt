@@ -5,7 +5,7 @@ ghost use Rattle.lab.specs.Running.{LaysOut, Begun, done, behind};
 ghost use Rattle.script.specs.Reading.{reading_first};
 
 use crate::shelf_lab::Lab;
-use code::widths::{is_width, rows_of};
+use code::widths::Width;
 use script::reader::read_first;
 use shelf::roster::Roster;
 use tray::fault::Fault;
@@ -17,8 +17,8 @@ impl Lab<'_> {
         requires { self.old.roster ≡ None }
         ensures { LaysOut self.old.tray.cells.now width size result (standing self.new) }
     {
-        if is_width(width) {
-            self.tray.renew(Shape::new(width + 2, rows_of(width), size));
+        if let Some(k) = Width::new(width) {
+            self.tray.renew(Shape::new(k.number + 2, k.rows(), size));
         }
         self.roster = Some(Roster::layout(&mut self.tray, width, size)?);
         Ok(())

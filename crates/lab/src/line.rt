@@ -10,7 +10,8 @@ use script::reader::is_letter;
 use shelf::roster::MOST_SIZE;
 use tray::fault::{Fault, Layer};
 
-// A line being written. Its text so far stands at the front of the caller's buffer.
+// A line being written. Its text so far stands at the front of the caller's buffer. (`write!` may fail for all that its
+// clauses say, also where there is room, and a line may not.)
 #[derive(Drop)]
 struct Line<'l> {
     buffer: &'l mut [u8],

@@ -1,7 +1,7 @@
 // The lines of a whole script.
-ghost use Rattle.std.specs.Prelude.{◌≡◌, ℕ, ◌≤◌, List, ◌++◌, length, take, IfOk};
-ghost use Rattle.lab.specs.Labs.{standing, bare};
-ghost use Rattle.lab.specs.Transcripts.{Tells, Transcript};
+ghost use Rattle.std.specs.Prelude.{◌≡◌, ℕ, List, length, take, IfOk};
+ghost use Rattle.lab.specs.Labs.{bare};
+ghost use Rattle.lab.specs.Transcripts.{Transcript};
 
 use crate::run::LEAST_LINE;
 use crate::shelf_lab::Lab;

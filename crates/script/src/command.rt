@@ -1,6 +1,6 @@
 // The commands of an exam script. A command keeps its operands as parts of the script: the numbers are read from them
 // when it runs.
-ghost use Rattle.std.specs.Prelude.{◌≡◌, ◌+◌, ◌*◌};
+ghost use Rattle.std.specs.Prelude.{◌≡◌};
 ghost use Rattle.script.specs.Commands.{word, number_of, place_of, plan_of};
 
 use crate::source::Source;

@@ -6,7 +6,7 @@ ghost use Rattle.tray.specs.SplitOwes.{split_sized, split_wraps};
 use crate::fault::Fault;
 use crate::trays::{Shape, Tray};
 
-// How many columns the two halves have together at most.
+// How many columns the two halves have together at most: a limit of its own, beside the flat tray's.
 pub const MAX_COLUMNS: u32 = 13;
 
 // Two trays by value. The split tray is empty where they differ in rows or block size, or have too

@@ -21,7 +21,7 @@ impl Shape {
         size: 0,
     };
 
-    pub const fn new(columns: u32, rows: u32, size: u32) -> Shape
+    pub fn new(columns: u32, rows: u32, size: u32) -> Shape
         ensures columns { result.columns ≡ columns }
         ensures rows { result.rows ≡ rows }
         ensures size { result.size ≡ size }

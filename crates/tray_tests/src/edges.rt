@@ -201,28 +201,24 @@ mod tests {
         Ok(())
     }
 
-    // The shapes of two halves, and the columns of the split tray that they make; 0 where it is empty.
+    // The shapes of two halves, and the columns of the split tray that they make, if they make one.
     #[test]
     fn halves_that_match(rt: HostRuntime) -> Result<(), Fail> {
         let cases = [
-            (Shape::new(6, 4, 2), Shape::new(7, 4, 2), 13),
-            (Shape::new(6, 4, 2), Shape::new(8, 4, 2), 0),
-            (Shape::new(14, 4, 2), Shape::new(0, 4, 2), 0),
-            (Shape::new(0, 4, 2), Shape::new(13, 4, 2), 13),
-            (Shape::new(2, 4, 2), Shape::new(2, 5, 2), 0),
-            (Shape::new(2, 4, 2), Shape::new(2, 4, 3), 0),
-            (Shape::new(0, 0, 0), Shape::new(0, 0, 0), 0),
+            (Shape::new(6, 4, 2), Shape::new(7, 4, 2), Some(13)),
+            (Shape::new(6, 4, 2), Shape::new(8, 4, 2), None),
+            (Shape::new(14, 4, 2), Shape::new(0, 4, 2), None),
+            (Shape::new(0, 4, 2), Shape::new(13, 4, 2), Some(13)),
+            (Shape::new(2, 4, 2), Shape::new(2, 5, 2), None),
+            (Shape::new(2, 4, 2), Shape::new(2, 4, 3), None),
+            (Shape::new(0, 0, 0), Shape::new(0, 0, 0), None),
         ];
         for (left, right, columns) in cases {
             let halves = Split::new(
                 Cabinet::new(rt.alloc(), left)?,
                 Cabinet::new(rt.alloc(), right)?,
             );
-            let expected = if columns == 0 {
-                Shape::EMPTY
-            } else {
-                Shape { columns, ..left }
-            };
+            let expected = columns.map_or(Shape::EMPTY, |columns| Shape { columns, ..left });
             assert_eq!(rt; halves.shape(), expected);
         }
         Ok(())
