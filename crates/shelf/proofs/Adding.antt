@@ -17,9 +17,6 @@ has_slot k size work room s l = omega (arith, mul-le-mul_right {m = s + 1} {n = 
 pub has_slot_for : (k size len : ℕ) (work : List ℕ) → Room k size work → len ≡ size → (s : ℕ) → s < rows k + rows k → (s + 1) * len ≤ length work
 has_slot_for k size len work room e s l = subst (λ x. (s + 1) * x ≤ length work) (sym e) (has_slot k size work room s l)
 
-pub room_kept : (k size : ℕ) (was work : List ℕ) → Room k size was → length work ≡ length was → Room k size work
-room_kept k size was work room e = record { large = omega (arith, room.large) }
-
 pub filled_same : (size : ℕ) (was : List ℕ) (first n : ℕ) (f g : ℕ → ℕ → ℕ) (after : List ℕ) → ((t b : ℕ) → f t b ≡ g t b) → Filled size was first n f after → Filled size was first n g after
 filled_same size was first n f g after e h t b l = h t b l ∙ ap (λ x. cond (leb first t && ltb t (first + n)) x (slot size was t b)) (e (t - first) b)
 

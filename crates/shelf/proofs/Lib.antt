@@ -10,6 +10,7 @@ pub mod Wiping
 pub mod Laying
 pub mod Indices
 pub mod Adding
+pub mod Benching
 pub mod Holding
 pub mod Gathering
 pub mod Outs

@@ -13,9 +13,6 @@ second true b e = e
 second false b e = absurd (true≢false (sym e))
 
 module _ (r : Rostered) (kept : keeps r.width r.size r.missing ≡ true) where
-  pub is_width-kept : is_width r.width ≡ true
-  is_width-kept = first (is_width r.width) (is_size r.size && are_columns r.width r.missing) kept
-
   pub are_columns-kept : are_columns r.width r.missing ≡ true
   are_columns-kept =
       second (is_size r.size) (are_columns r.width r.missing)

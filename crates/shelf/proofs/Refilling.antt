@@ -314,40 +314,24 @@ module _ (k size : ℕ) (width : is_width k ≡ true) (out : Missing) (cols : ar
 
 -- ---- an accepted rebuild
 
--- what a refill needs: the columns in service answer, and so does its own
-abbrev pub Refillable : ℕ → ℕ → Missing → Meaning → ℕ → List ℕ → Type 0
-Refillable k size out m c work =
-    Room k size work × (Heard k size (is_out out) m × ((m.answers c ≡ true) × ((are_columns k out ≡ true) × (is_out out c ≡ true))))
-
 module _ (r : Rostered) (kept : keeps r.width r.size r.missing ≡ true) (m : Meaning) (c : ℕ) where
-  -- what its checks tell
-  pub rebuild_ready : (work : List ℕ) → rebuilding r m c (length work) ≡ Ok tt → (k : ℕ) → k ≡ r.width → (size : ℕ) → size ≡ r.size → (out : Missing) → out ≡ r.missing
-      → Refillable k size out m c work
-  rebuild_ready work ok k ke size se out oe =
-      let h = rebuildable r m c (length work) ok in
+  -- what its checks tell: the columns in service answer, and so does its own
+  pub rebuild_ready : (w : ℕ) → rebuilding r m c w ≡ Ok tt → (k : ℕ) → k ≡ r.width → (size : ℕ) → size ≡ r.size → (out : Missing) → out ≡ r.missing
+      → Heard k size (is_out out) m × (m.answers c ≡ true)
+  rebuild_ready w ok k ke size se out oe =
+      let h = rebuildable r m c w ok in
       let cols = are_columns-kept r kept in
-      subst (λ x. Refillable x size out m c work) (sym ke)
-      (subst (λ y. Refillable r.width y out m c work) (sym se)
-      (subst (λ z. Refillable r.width r.size z m c work) (sym oe) (
-        record { large = h.room },
-        (
-          record {
-            shape = h.sound.shape;
-            answers = λ x xl f. h.sound.heard x xl (removed_out r.width r.missing c x cols ∙ ap (λ t. t && not (eqb x c)) f);
-          },
-          (h.sound.heard c h.column (removed_out r.width r.missing c c cols ∙ removed_own (out_of r) c), (cols, h.was_out)),
-        ),
-      )))
+      rw (ke, se, oe) (
+        record { shape = h.sound.shape; answers = λ x xl f. h.sound.heard x xl (removed_out r.width r.missing c x cols ∙ ap (λ t. t && not (eqb x c)) f) },
+        h.sound.heard c h.column (removed_out r.width r.missing c c cols ∙ removed_own (out_of r) c),
+      )
 
   -- and what it does
   pub rebuilt : (r' : Rostered) → r' ≡ back_in r c → (m' : Meaning) (n k : ℕ) → k ≡ r.width → (size : ℕ) → size ≡ r.size → (out : Missing) → out ≡ r.missing
       → Rebuilt k (published k) size (is_out out) m c n (removed (is_out out) c) m'
       → Rebuilt r.width (published r.width) r.size (out_of r) m c n (out_of r') m'
   rebuilt r' e m' n k ke size se out oe h =
-      let p =
-      subst (λ z. Rebuilt r.width (published r.width) r.size (is_out z) m c n (removed (is_out z) c) m') oe
-      (subst (λ y. Rebuilt r.width (published r.width) y (is_out out) m c n (removed (is_out out) c) m') se
-      (subst (λ x. Rebuilt x (published x) size (is_out out) m c n (removed (is_out out) c) m') ke h)) in
+      let p = rw (ke, se, oe) at h in
       record {
         column = p.column;
         was_out = p.was_out;

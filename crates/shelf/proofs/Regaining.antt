@@ -8,17 +8,17 @@ use Rattle.code.specs.Numbers.{only, xorsum}
 use Rattle.code.specs.Code.{Blocks, Rule, spot, rows, meets, butterfly, gives}
 use Rattle.code.specs.Neighbours.{Tournament}
 use Rattle.code.specs.Lines.{holds}
-use Rattle.code.proofs.Xor.{only_xor, only_zero, only_false, sum_next, sum_none}
+use Rattle.code.proofs.Xor.{only_xor, only_zero, only_true, only_false, sum_next, sum_none}
 use Rattle.code.proofs.Linear.{difference, butterfly_same, butterfly_xor}
 use Rattle.code.proofs.Lost.{beside_none, gives_none}
 use Rattle.code.proofs.Put.{line_spot}
 use Rattle.law.specs.Holding.{held}
 use Rattle.law.specs.Hand.{others, by_row, with_row}
 use Rattle.shelf.specs.Blocks.{Ready}
-use Rattle.shelf.specs.Slots.{slot, row_slot, line_slot, SlotSet, IsSlot, Plus, nothing, holds_but, to_lines}
+use Rattle.shelf.specs.Slots.{slot, row_slot, line_slot, SlotAdded, SlotSet, IsSlot, Plus, nothing, holds_but, to_lines}
 use Rattle.shelf.specs.Reading.{after_reads, times}
 use Rattle.shelf.specs.Regaining.{Alone, once_below, row_of, below, lines_but, unless, RowFound}
-use Rattle.shelf.proofs.Adding.{plus_none, plus_same, plus_plus}
+use Rattle.shelf.proofs.Adding.{plus_none, plus_same, plus_plus, plus_row}
 use Rattle.shelf.proofs.Gathering.{reads_none, reads_same, reads_reads, column_none, column_more}
 
 -- ---- the tray
@@ -80,6 +80,28 @@ module _ (k : ℕ) (right : Rule) (i j : ℕ) where
       ∙ ap (only (not (eqb n (meets i j)))) (sym (butterfly_xor k right E F n) ∙ butterfly_same k right (difference E F) G h n l)
 
 -- ---- the columns one by one
+
+module _ (k : ℕ) (right : Rule) (size i j t : ℕ) (m : Meaning) (was : List ℕ) where
+  -- of column j nothing is added
+  pub own_none : t ≡ j → Plus k size was (λ b r. only (eqb r i) (unless m i j t b)) (λ b. lines_but k right i j (spot i t (unless m i j t b))) was
+  unfolding spot
+  own_none e =
+      plus_same k size was nothing nothing _ _ was (λ b r _ _. sym (only_zero (eqb r i) (unless m i j t b) (λ _. none b)))
+      (λ b n _ _. sym (but_none k right i j (spot i t (unless m i j t b)) (λ i' c. only_zero _ (unless m i j t b) (λ _. none b)) n)) (plus_none k size was)
+    where
+      none : (b : ℕ) → unless m i j t b ≡ 0
+      none b = only_false (not (eqb t j)) (held m b i t) (ap not (sym (eq-true t j e)))
+
+  -- a block x of another column is added to its row (mid), and then to the lines but for the one through (i, j)
+  pub other_added : Tournament k right → i < rows k → t < k → t ≢ j → (mid after x : List ℕ) → x ≡ m.block t i → SlotAdded size was i x mid → Plus k size mid nothing (to_lines k right i t j x) after
+      → Plus k size was (λ b r. only (eqb r i) (unless m i j t b)) (λ b. lines_but k right i j (spot i t (unless m i j t b))) after
+  other_added law il tk ne mid after x e added passed =
+      plus_same k size was _ _ _ _ after (λ b r _ _. xor_zero_r (only (eqb r i) (get_or x b 0)) ∙ ap (only (eqb r i)) (known b))
+      (λ b n _ _. to_lines_but k right i j law t tk x b n ∙ ap (λ y. lines_but k right i j (spot i t y) n) (known b))
+      (plus_plus k size was _ _ _ _ mid after (plus_row k size was x mid i il added) passed)
+    where
+      known : (b : ℕ) → get_or x b 0 ≡ unless m i j t b
+      known b = ap (λ y. get_or y b 0) e ∙ sym (only_true (not (eqb t j)) (held m b i t) (ap not (sym (ne_false t j ne))))
 
 pub others_next : (j t : ℕ) (f : ℕ → ℕ) → bit_xor (others t j f) (only (not (eqb t j)) (f t)) ≡ others (t + 1) j f
 unfolding others

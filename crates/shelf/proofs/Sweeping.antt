@@ -1,12 +1,11 @@
 -- The parity places one after another.
-use Rattle.std.proofs.Common.{◌≡◌, ℕ, ◌+◌, ◌-◌, ◌*◌, ◌<◌, ◌≤◌, true, false, cond, ◌&&◌, ltb, ◌≢◌, List, length, get_or, Some, None, Ok, Option, sym, refl, ap, ◌∙◌, subst, ap₂, ⊎_elim, arith}
+use Rattle.std.proofs.Common.{◌≡◌, ℕ, ◌+◌, ◌-◌, ◌*◌, ◌<◌, ◌≤◌, true, false, cond, ◌&&◌, ltb, ◌≢◌, List, get_or, Some, None, Ok, Option, sym, refl, ap, ◌∙◌, subst, ap₂, ⊎_elim, arith}
 use native.Mathlib.Decide.{ℕ_discrete, dec_lt}
 use lib.Bits.{bit_xor}
 use borrow.Author.Tests.{lt-true, le-false}
 use Rattle.tray.specs.Meaning.{Meaning}
 use Rattle.code.specs.Code.{Rule, rows, horizontal, butterfly, value}
 use Rattle.code.specs.Neighbours.{published}
-use Rattle.code.specs.Widths.{is_width}
 use Rattle.code.proofs.Put.{any_none}
 use Rattle.code.proofs.Xor.{only_true, only_false}
 use Rattle.code.proofs.Linear.{value_horizontal, value_butterfly, horizontal_same, butterfly_same}
@@ -16,7 +15,7 @@ use Rattle.shelf.specs.declared.roster.missing.Missing.TheVariants.{Nothing}
 use Rattle.shelf.specs.Missing.{is_out}
 use Rattle.shelf.specs.Rosters.{Rostered, out_of}
 use Rattle.shelf.specs.Checks.{sweeping}
-use Rattle.shelf.specs.Slots.{slot, Room}
+use Rattle.shelf.specs.Slots.{slot}
 use Rattle.shelf.specs.Blocks.{Ready}
 use Rattle.shelf.specs.Reading.{Heard, Gathered, after_reads, parity_read, served}
 use Rattle.shelf.specs.Sweeping.{parity_place, Sums, Agrees, FirstOff, Compared}
@@ -196,21 +195,12 @@ calm_reads m m' m'' f e h =
 
 module _ (r : Rostered) (m : Meaning) where
   -- what its checks tell
-  pub sweep_ready : (work : List ℕ) → sweeping r m (length work) ≡ Ok tt → is_width r.width ≡ true
-      → (k : ℕ) → k ≡ r.width → (size : ℕ) → size ≡ r.size → Room k size work × Heard k size (is_out Nothing) m
-  sweep_ready work ok width k ke size se =
-      let h = sweepable r m (length work) ok in
-      subst (λ x. Room x size work × Heard x size (is_out Nothing) m) (sym ke)
-      (subst (λ y. Room r.width y work × Heard r.width y (is_out Nothing) m) (sym se)
-      (record { large = h.room }, record { shape = h.sound.shape; answers = h.sound.heard }))
+  pub sweep_ready : (w : ℕ) → sweeping r m w ≡ Ok tt → (k : ℕ) → k ≡ r.width → (size : ℕ) → size ≡ r.size → Heard k size (is_out Nothing) m
+  sweep_ready w ok k ke size se = rw (ke, se) (let h = sweepable r m w ok in record { shape = h.sound.shape; answers = h.sound.heard })
 
   -- and what it does
   pub swept : (w : ℕ) → sweeping r m w ≡ Ok tt → (m' : Meaning) (found : Option (ℕ × ℕ))
       → (k : ℕ) → k ≡ r.width → (size : ℕ) → size ≡ r.size → Calm m m' → Finding k (published k) size m found
       → Swept r.width (published r.width) r.size (out_of r) m found m'
   swept w ok m' found k ke size se calm h =
-      record {
-        all_in = λ c _. (sweepable r m w ok).all_in c;
-        finding = subst (λ x. Finding x (published x) r.size m found) ke (subst (λ y. Finding k (published k) y m found) se h);
-        calm = calm;
-      }
+      record { all_in = λ c _. (sweepable r m w ok).all_in c; finding = rw (ke, se) at h; calm = calm }

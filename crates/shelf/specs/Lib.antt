@@ -9,6 +9,7 @@ pub mod Layouts
 pub mod Slots
 pub mod Reading
 pub mod Solving
+pub mod Benches
 pub mod Recovering
 pub mod Regaining
 pub mod Hands

@@ -11,7 +11,7 @@ pub(crate) fn fetch<T: Tray>(tray: &mut T, column: u32, row: u32, block: &mut [u
     ensures tray { T.Tray.meaning tray.new ≡ tallied (T.Tray.meaning tray.old) column }
     ensures block { block.new ≡ (T.Tray.meaning tray.old).block column row }
 {
-    let _ = tray.read(column, row, block);
+    tray.read(column, row, block).unwrap();
 }
 
 // Writes a block.
@@ -19,5 +19,5 @@ pub(crate) fn place<T: Tray>(tray: &mut T, column: u32, row: u32, block: &[u8])
     requires { Ready (T.Tray.meaning tray.old) column row (length block.now) }
     ensures { T.Tray.meaning tray.new ≡ stored (T.Tray.meaning tray.old) column row block.now }
 {
-    let _ = tray.write(column, row, block);
+    tray.write(column, row, block).unwrap();
 }

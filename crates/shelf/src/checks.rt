@@ -22,7 +22,7 @@ fn lowest_silent<T: Tray>(out: Missing, tray: &T, columns: u32) -> Option<u32>
     requires { columns ≤ (T.Tray.meaning tray.now).columns }
     ensures { result ≡ silent_from out (T.Tray.meaning tray.now).answers 0 columns }
 {
-    (0..columns).find(|column| !is_heard(out, tray, *column))
+    (0..columns).find(|&column| !is_heard(out, tray, column))
 }
 
 // Goes on where a check holds, and else ends in the fault that tells why not.

@@ -8,12 +8,12 @@ ghost use Rattle.shelf.specs.Missing.{is_out, is_full};
 ghost use Rattle.shelf.specs.Rosters.{out_of};
 ghost use Rattle.shelf.specs.Hands.{Reach};
 
+use crate::bench::Bench;
 use crate::blocks::fetch;
-use crate::recover::{recover, slot_for};
+use crate::recover::slot_for;
 use crate::regain::regain_block;
 use crate::roster::Roster;
 use crate::roster::missing::Missing;
-use crate::slots::copy_slot;
 use code::places::Row;
 use code::widths::Width;
 use tray::trays::Tray;
@@ -34,8 +34,9 @@ fn hand_solved<T: Tray>(
     ensures at_hand { AtHand k.number (published k.number) (length block.old) (is_out out) (T.Tray.meaning tray.old) row.0 column block.new }
     ensures calm { Calm (T.Tray.meaning tray.old) (T.Tray.meaning tray.new) }
 {
-    let by = recover(tray, k, out, block, work);
-    copy_slot(work, slot_for(k, by, column, row), block);
+    let mut bench = Bench { k, block, work };
+    let by = bench.recover(tray, out);
+    bench.copy_slot(slot_for(k, by, column, row));
 }
 
 // The block of a data column that alone is out. The work space lends a block of scratch space.

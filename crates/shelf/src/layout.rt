@@ -1,11 +1,10 @@
 // The layout of a shelf on a tray, which every program begins with.
 ghost use Rattle.std.specs.Prelude.{◌≡◌, ℕ, ◌<◌, ◌≤◌, length, replicate, OnErr};
-ghost use Rattle.tray.specs.Meaning.{if_ok};
 ghost use Rattle.law.specs.Promises.{Lays};
 ghost use Rattle.law.specs.Law.{LawOfShelves};
 ghost use Rattle.shelf.specs.Blocks.{Ready};
 ghost use Rattle.shelf.specs.Wiped.{wiped_column, wiped};
-ghost use Rattle.shelf.specs.Layouts.{laying_out, zeroed, Begins};
+ghost use Rattle.shelf.specs.Layouts.{laying_out, Begins};
 
 use crate::blocks::place;
 use crate::roster::{MOST_SIZE, Roster};
@@ -16,7 +15,7 @@ static ZEROS: [u8; MOST_SIZE as usize] = [0; MOST_SIZE as usize];
 
 // A block of zeros.
 fn zeros(size: u32) -> &'static [u8]
-    requires { size ≤ 512 }
+    requires { size ≤ MOST_SIZE }
     ensures { result.now ≡ replicate size 0 }
 {
     &ZEROS[0..size as usize]

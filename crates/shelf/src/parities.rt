@@ -1,8 +1,7 @@
 // The parities of a data place: a change of its block is added to the sum of its row, and to every line that holds it.
-ghost use Rattle.std.specs.Prelude.{◌≡◌, ◌+◌, ◌<◌, true, length};
+ghost use Rattle.std.specs.Prelude.{◌≡◌, ◌+◌, ◌<◌, length};
 ghost use Rattle.code.specs.Code.{rows};
 ghost use Rattle.code.specs.Neighbours.{published};
-ghost use Rattle.code.specs.Widths.{is_width};
 ghost use Rattle.shelf.specs.Missing.{is_out};
 ghost use Rattle.shelf.specs.Blocks.{Ready};
 ghost use Rattle.shelf.specs.Reading.{Answers, Heard};

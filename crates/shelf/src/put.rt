@@ -14,8 +14,8 @@ ghost use Rattle.shelf.specs.Hands.{Reach};
 
 use crate::blocks::place;
 use crate::parities::add_to_parities;
+use crate::roster::Roster;
 use crate::roster::missing::Missing;
-use crate::roster::{MOST_SIZE, Roster};
 use crate::scratch::Scratch;
 use crate::slots::add;
 use code::places::Row;

@@ -1,9 +1,8 @@
 // The rebuild of a column: its blocks are found from those in service and written, and it is in service again.
-ghost use Rattle.std.specs.Prelude.{◌≡◌, ◌+◌, ◌*◌, ◌<◌, ◌≤◌, true, length};
+ghost use Rattle.std.specs.Prelude.{◌≡◌, ◌+◌, ◌<◌, true, length};
 ghost use Rattle.tray.specs.Meaning.{stored, if_ok};
 ghost use Rattle.code.specs.Code.{rows};
 ghost use Rattle.code.specs.Neighbours.{published};
-ghost use Rattle.code.specs.Widths.{is_width};
 ghost use Rattle.law.specs.Service.{removed};
 ghost use Rattle.law.specs.Calls.{Rebuilt};
 ghost use Rattle.law.specs.Promises.{Spares};
@@ -13,15 +12,14 @@ ghost use Rattle.shelf.specs.Checks.{rebuilding};
 ghost use Rattle.shelf.specs.Layouts.{given};
 ghost use Rattle.shelf.specs.Promises.{RebuildsOn};
 ghost use Rattle.shelf.specs.Blocks.{Ready};
-ghost use Rattle.shelf.specs.Slots.{Room};
 ghost use Rattle.shelf.specs.Reading.{Answers, Heard};
 ghost use Rattle.shelf.specs.Recovering.{is_sole_data};
 ghost use Rattle.shelf.specs.Regaining.{sole_slot};
 ghost use Rattle.shelf.specs.Rebuilding.{slot_of, pair_of, Located, slot_block, written, reads_for, reads_of, RebuildCarries};
 
+use crate::bench::Bench;
 use crate::blocks::place;
-use crate::recover::{recover, slot_for};
-use crate::regain::regain;
+use crate::recover::slot_for;
 use crate::roster::Roster;
 use crate::roster::missing::Missing;
 use crate::scratch::Scratch;
@@ -99,86 +97,63 @@ impl Missing {
     }
 }
 
-// Finds a missing column in the work space.
-fn locate<T: Tray>(
-    tray: &mut T,
-    k: Width,
-    out: Missing,
-    column: u32,
-    block: &mut [u8],
-    work: &mut [u8],
-) -> Whereabouts
-    requires room { Room k.number (length block.old) work.old }
-    requires heard { Heard k.number (length block.old) (is_out out) (T.Tray.meaning tray.old) }
-    requires columns { are_columns k.number out ≡ true }
-    requires missing { is_out out column ≡ true }
-    ensures { Located k.number (published k.number) (length block.old) out (T.Tray.meaning tray.old) column result (T.Tray.meaning tray.new) work.new }
-{
-    if out.is_sole_data(k) {
-        regain(tray, k, column, block, work);
-        Whereabouts::Alone
-    } else {
-        let by = recover(tray, k, out.pair(k), block, work);
-        Whereabouts::ByRows(by)
+impl<'a> Bench<'a> {
+    ghost use Rattle.shelf.specs.Benches.{Kept, size_of};
+
+    // Finds a missing column.
+    fn locate<T: Tray>(&mut self, tray: &mut T, out: Missing, column: u32) -> Whereabouts
+        requires heard { Heard self.old.k.number (size_of self.old) (is_out out) (T.Tray.meaning tray.old) }
+        requires columns { are_columns self.old.k.number out ≡ true }
+        requires missing { is_out out column ≡ true }
+        ensures kept { Kept self.old self.new }
+        ensures found { Located self.old.k.number (published self.old.k.number) (size_of self.old) out (T.Tray.meaning tray.old) column result (T.Tray.meaning tray.new) self.new.work.now }
+    {
+        let k = self.k;
+        if out.is_sole_data(k) {
+            self.regain(tray, column);
+            Whereabouts::Alone
+        } else {
+            let by = self.recover(tray, out.pair(k));
+            Whereabouts::ByRows(by)
+        }
     }
-}
 
-// Writes a block from a slot.
-fn place_slot<T: Tray>(tray: &mut T, column: u32, row: u32, work: &[u8], slot: usize, size: usize)
-    requires ready { Ready (T.Tray.meaning tray.old) column row size }
-    requires within { (slot + 1) * size ≤ length work.now }
-    ensures { T.Tray.meaning tray.new ≡ stored (T.Tray.meaning tray.old) column row (slot_block size work.now slot) }
-{
-    let at = slot * size;
-    place(tray, column, row, &work[at..at + size]);
-}
-
-// Writes every row of a column that was found.
-fn write_column<T: Tray>(
-    tray: &mut T,
-    k: Width,
-    column: u32,
-    found: Whereabouts,
-    size: usize,
-    work: &[u8],
-)
-    requires room { Room k.number size work.now }
-    requires answers { Answers k.number size (T.Tray.meaning tray.old) column }
-    requires column { found ≡ Whereabouts.Alone → column < k.number }
-    ensures { T.Tray.meaning tray.new ≡ written (T.Tray.meaning tray.old) column (rows k.number) (λ i. slot_block size work.now (slot_of k.number found column i)) }
-{
-    for row in 0..k.rows() {
-        place_slot(
-            tray,
-            column,
-            row,
-            work,
-            found.slot(k, column, Row(row)),
-            size,
-        );
+    // Writes a block from a slot.
+    fn place_slot<T: Tray>(&self, tray: &mut T, column: u32, row: u32, slot: usize)
+        requires ready { Ready (T.Tray.meaning tray.old) column row (size_of self.now) }
+        requires within { slot < rows self.now.k.number + rows self.now.k.number }
+        ensures { T.Tray.meaning tray.new ≡ stored (T.Tray.meaning tray.old) column row (slot_block (size_of self.now) self.now.work.now slot) }
+    {
+        let size = self.block.len();
+        let at = slot * size;
+        place(tray, column, row, &self.work[at..at + size]);
     }
-}
 
-// Finds a missing column and writes it, and answers the number of blocks that were read. The block is scratch space.
-fn refill<T: Tray>(
-    tray: &mut T,
-    k: Width,
-    out: Missing,
-    column: u32,
-    block: &mut [u8],
-    work: &mut [u8],
-) -> u32
-    requires room { Room k.number (length block.old) work.old }
-    requires heard { Heard k.number (length block.old) (is_out out) (T.Tray.meaning tray.old) }
-    requires answers { (T.Tray.meaning tray.old).answers column ≡ true }
-    requires columns { are_columns k.number out ≡ true }
-    requires missing { is_out out column ≡ true }
-    ensures count { result ≡ reads_of k.number out }
-    ensures done { Rebuilt k.number (published k.number) (length block.old) (is_out out) (T.Tray.meaning tray.old) column result (removed (is_out out) column) (T.Tray.meaning tray.new) }
-{
-    let found = locate(tray, k, out, column, block, work);
-    write_column(tray, k, column, found, block.len(), work);
-    found.reads(k)
+    // Writes every row of a column that was found.
+    fn write_column<T: Tray>(&self, tray: &mut T, column: u32, found: Whereabouts)
+        requires answers { Answers self.now.k.number (size_of self.now) (T.Tray.meaning tray.old) column }
+        requires column { found ≡ Whereabouts.Alone → column < self.now.k.number }
+        ensures { T.Tray.meaning tray.new ≡ written (T.Tray.meaning tray.old) column (rows self.now.k.number) (λ i. slot_block (size_of self.now) self.now.work.now (slot_of self.now.k.number found column i)) }
+    {
+        let k = self.k;
+        for row in 0..k.rows() {
+            self.place_slot(tray, column, row, found.slot(k, column, Row(row)));
+        }
+    }
+
+    // Finds a missing column and writes it, and answers the number of blocks that were read.
+    fn refill<T: Tray>(&mut self, tray: &mut T, out: Missing, column: u32) -> u32
+        requires heard { Heard self.old.k.number (size_of self.old) (is_out out) (T.Tray.meaning tray.old) }
+        requires answers { (T.Tray.meaning tray.old).answers column ≡ true }
+        requires columns { are_columns self.old.k.number out ≡ true }
+        requires missing { is_out out column ≡ true }
+        ensures count { result ≡ reads_of self.old.k.number out }
+        ensures done { Rebuilt self.old.k.number (published self.old.k.number) (size_of self.old) (is_out out) (T.Tray.meaning tray.old) column result (removed (is_out out) column) (T.Tray.meaning tray.new) }
+    {
+        let found = self.locate(tray, out, column);
+        self.write_column(tray, column, found);
+        found.reads(self.k)
+    }
 }
 
 impl Roster {
@@ -198,8 +173,12 @@ impl Roster {
     {
         self.check_rebuild(tray, column, work.len())?;
         let mut scratch = Scratch::new();
-        let block = scratch.block(self.size());
-        let reads = refill(tray, self.width(), self.missing(), column, block, work);
+        let mut bench = Bench {
+            k: self.width(),
+            block: scratch.block(self.size()),
+            work,
+        };
+        let reads = bench.refill(tray, self.missing(), column);
         self.put_back(column);
         Ok(reads)
     }

@@ -6,14 +6,13 @@ ghost use Rattle.code.specs.Code.{spot, rows, dark, meets};
 ghost use Rattle.code.specs.Neighbours.{published};
 ghost use Rattle.law.specs.Holding.{held, Calm};
 ghost use Rattle.law.specs.Hand.{others, by_row, regained, Bytes};
-ghost use Rattle.shelf.specs.Slots.{Room, Plus};
 ghost use Rattle.shelf.specs.Reading.{after_reads, times};
-ghost use Rattle.shelf.specs.Regaining.{Alone, once_below, of_rows, row_of, below, lines_but, unless, RowFound, LinesRead, Halfway, half_of, Found, BytesAdded, wants, taken};
+ghost use Rattle.shelf.specs.Regaining.{Alone, once_below, of_rows, row_of, below, unless, half_of, BytesAdded, wants, taken};
 ghost use Rattle.shelf.specs.Blocks.{Ready};
 
+use crate::bench::Bench;
 use crate::blocks::fetch;
-use crate::slots::{add, copy_slot, fetch_slot};
-use crate::sums::{add_to_lines, line_slot};
+use crate::slots::add;
 use code::lines::is_taken;
 use code::places::{Line, Row};
 use code::widths::Width;
@@ -21,151 +20,115 @@ use tray::trays::Tray;
 
 // ---- the whole column
 
-// Reads a row of a data column, unless it is the lost one, and adds the block to the sum of the row, and to those of the
-// lines that hold it, but for the line through the lost place.
-fn add_other<T: Tray>(
-    tray: &mut T,
-    k: Width,
-    lost: u32,
-    row: Row,
-    column: u32,
-    block: &mut [u8],
-    work: &mut [u8],
-)
-    requires room { Room k.number (length block.old) work.old }
-    requires alone { Alone k.number (length block.old) (T.Tray.meaning tray.old) lost }
-    requires row { row.0 < rows k.number }
-    requires column { column < k.number }
-    ensures tray { T.Tray.meaning tray.new ≡ after_reads (T.Tray.meaning tray.old) (times column (if nat_eq column lost then 0 else 1)) }
-    ensures work { Plus k.number (length block.old) work.old (λ b r. only (r == row.0) (unless (T.Tray.meaning tray.old) row.0 lost column b)) (λ b. lines_but k.number (published k.number) row.0 lost (spot row.0 column (unless (T.Tray.meaning tray.old) row.0 lost column b))) work.new }
-{
-    if column != lost {
-        fetch(tray, column, row.0, block);
-        add(work, row.0 as usize, block);
-        add_to_lines(work, k, row, column, Some(lost), block);
+impl<'a> Bench<'a> {
+    ghost use Rattle.shelf.specs.Benches.{AddsRow, FindsRow, HasLines, ReadsLines, IsHalfway, GetsHalfway, FindsSole, size_of};
+
+    // Reads a row of a data column, unless it is the lost one, and adds the block to the sum of the row, and to those of the
+    // lines that hold it, but for the line through the lost place.
+    fn add_other<T: Tray>(&mut self, tray: &mut T, lost: u32, row: Row, column: u32)
+        requires alone { Alone self.old.k.number (size_of self.old) (T.Tray.meaning tray.old) lost }
+        requires row { row.0 < rows self.old.k.number }
+        requires column { column < self.old.k.number }
+        ensures tray { T.Tray.meaning tray.new ≡ after_reads (T.Tray.meaning tray.old) (times column (if nat_eq column lost then 0 else 1)) }
+        ensures work { AddsRow row.0 lost (unless (T.Tray.meaning tray.old) row.0 lost column) (λ b. spot row.0 column (unless (T.Tray.meaning tray.old) row.0 lost column b)) self.old self.new }
+    {
+        if column != lost {
+            self.fetch_block(tray, column, row.0);
+            self.add(row.0 as usize);
+            self.add_to_lines(row, column, Some(lost));
+        }
     }
-}
 
-// The same for every data column: the row of the lost one is left to find.
-fn add_others<T: Tray>(
-    tray: &mut T,
-    k: Width,
-    lost: u32,
-    row: Row,
-    block: &mut [u8],
-    work: &mut [u8],
-)
-    requires room { Room k.number (length block.old) work.old }
-    requires alone { Alone k.number (length block.old) (T.Tray.meaning tray.old) lost }
-    requires row { row.0 < rows k.number }
-    ensures tray { T.Tray.meaning tray.new ≡ after_reads (T.Tray.meaning tray.old) (once_below lost k.number) }
-    ensures work { Plus k.number (length block.old) work.old (λ b r. only (r == row.0) (others k.number lost (held (T.Tray.meaning tray.old) b row.0))) (λ b. lines_but k.number (published k.number) row.0 lost (row_of row.0 (below lost k.number (held (T.Tray.meaning tray.old) b)))) work.new }
-{
-    for column in 0..k.number {
-        add_other(tray, k, lost, row, column, block, work);
+    // The same for every data column: the row of the lost one is left to find.
+    fn add_others<T: Tray>(&mut self, tray: &mut T, lost: u32, row: Row)
+        requires alone { Alone self.old.k.number (size_of self.old) (T.Tray.meaning tray.old) lost }
+        requires row { row.0 < rows self.old.k.number }
+        ensures tray { T.Tray.meaning tray.new ≡ after_reads (T.Tray.meaning tray.old) (once_below lost self.old.k.number) }
+        ensures work { AddsRow row.0 lost (λ b. others self.old.k.number lost (held (T.Tray.meaning tray.old) b row.0)) (λ b. row_of row.0 (below lost self.old.k.number (held (T.Tray.meaning tray.old) b))) self.old self.new }
+    {
+        for column in 0..self.k.number {
+            self.add_other(tray, lost, row, column);
+        }
     }
-}
 
-// Finds a row of the lost column by the row's sum, in the slot of the row, and adds the whole row to the lines that hold
-// its places, but for the line through the lost place.
-fn regain_row<T: Tray>(
-    tray: &mut T,
-    k: Width,
-    lost: u32,
-    row: Row,
-    block: &mut [u8],
-    work: &mut [u8],
-)
-    requires room { Room k.number (length block.old) work.old }
-    requires alone { Alone k.number (length block.old) (T.Tray.meaning tray.old) lost }
-    requires row { row.0 < rows k.number }
-    ensures tray { T.Tray.meaning tray.new ≡ after_reads (T.Tray.meaning tray.old) (of_rows k.number lost 1) }
-    ensures work { RowFound k.number (published k.number) (length block.old) lost (held (T.Tray.meaning tray.old)) row.0 work.old work.new }
-{
-    fetch_slot(tray, k.number, row.0, work, row.0 as usize, block.len());
-    add_others(tray, k, lost, row, block, work);
-    copy_slot(work, row.0 as usize, block);
-    add_to_lines(work, k, row, lost, Some(lost), block);
-}
-
-// Goes on to the next row: if it is dark for the lost column, its place there is found.
-fn regain_if_dark<T: Tray>(
-    tray: &mut T,
-    k: Width,
-    lost: u32,
-    row: Row,
-    block: &mut [u8],
-    work: &mut [u8],
-)
-    requires room { Room k.number (length block.old) work.old }
-    requires alone { Alone k.number (length block.old) (T.Tray.meaning tray.old) lost }
-    requires row { row.0 < rows k.number }
-    requires halfway { Halfway k.number (published k.number) (length block.old) lost (held (T.Tray.meaning tray.old)) row.0 work.old }
-    ensures tray { T.Tray.meaning tray.new ≡ after_reads (T.Tray.meaning tray.old) (of_rows k.number lost (if dark row.0 lost then 1 else 0)) }
-    ensures work { Halfway k.number (published k.number) (length block.old) lost (held (T.Tray.meaning tray.old)) (row.0 + 1) work.new }
-{
-    if row.is_dark(lost) {
-        regain_row(tray, k, lost, row, block, work);
+    // Finds a row of the lost column by the row's sum, in the slot of the row, and adds the whole row to the lines that hold
+    // its places, but for the line through the lost place.
+    fn regain_row<T: Tray>(&mut self, tray: &mut T, lost: u32, row: Row)
+        requires alone { Alone self.old.k.number (size_of self.old) (T.Tray.meaning tray.old) lost }
+        requires row { row.0 < rows self.old.k.number }
+        ensures tray { T.Tray.meaning tray.new ≡ after_reads (T.Tray.meaning tray.old) (of_rows self.old.k.number lost 1) }
+        ensures work { FindsRow lost (held (T.Tray.meaning tray.old)) row.0 self.old self.new }
+    {
+        self.fetch_slot(tray, self.k.number, row.0, row.0 as usize);
+        self.add_others(tray, lost, row);
+        self.copy_slot(row.0 as usize);
+        self.add_to_lines(row, lost, Some(lost));
     }
-}
 
-// Finds the dark rows of the lost column, where the lines through its white places are read already; these lines are then
-// left with the white places alone.
-fn regain_rows<T: Tray>(tray: &mut T, k: Width, lost: u32, block: &mut [u8], work: &mut [u8])
-    requires room { Room k.number (length block.old) work.old }
-    requires alone { Alone k.number (length block.old) (T.Tray.meaning tray.old) lost }
-    requires lines { LinesRead k.number (length block.old) lost (held (T.Tray.meaning tray.old)) (rows k.number) work.old }
-    ensures tray { T.Tray.meaning tray.new ≡ after_reads (T.Tray.meaning tray.old) (of_rows k.number lost (count (rows k.number) (λ i. dark i lost))) }
-    ensures work { Halfway k.number (published k.number) (length block.old) lost (held (T.Tray.meaning tray.old)) (rows k.number) work.new }
-{
-    for row in 0..k.rows() {
-        regain_if_dark(tray, k, lost, Row(row), block, work);
+    // Goes on to the next row: if it is dark for the lost column, its place there is found.
+    #[tactic(auto, using(crate::proofs::Benching::kept_none, crate::proofs::Halfway::on_dark, crate::proofs::Halfway::on_white))]
+    fn regain_if_dark<T: Tray>(&mut self, tray: &mut T, lost: u32, row: Row)
+        requires alone { Alone self.old.k.number (size_of self.old) (T.Tray.meaning tray.old) lost }
+        requires row { row.0 < rows self.old.k.number }
+        requires halfway { IsHalfway lost (held (T.Tray.meaning tray.old)) row.0 self.old }
+        ensures tray { T.Tray.meaning tray.new ≡ after_reads (T.Tray.meaning tray.old) (of_rows self.old.k.number lost (if dark row.0 lost then 1 else 0)) }
+        ensures work { GetsHalfway lost (held (T.Tray.meaning tray.old)) (row.0 + 1) self.old self.new }
+    {
+        if row.is_dark(lost) {
+            self.regain_row(tray, lost, row);
+        }
     }
-}
 
-// Goes on to the next row: if it is white for the lost column, the line through its place there is read.
-fn read_if_white<T: Tray>(tray: &mut T, k: Width, lost: u32, row: Row, size: usize, work: &mut [u8])
-    requires room { Room k.number size work.old }
-    requires alone { Alone k.number size (T.Tray.meaning tray.old) lost }
-    requires row { row.0 < rows k.number }
-    requires lines { LinesRead k.number size lost (held (T.Tray.meaning tray.old)) row.0 work.old }
-    ensures tray { T.Tray.meaning tray.new ≡ after_reads (T.Tray.meaning tray.old) (times (k.number + 1) (if dark row.0 lost then 0 else 1)) }
-    ensures work { LinesRead k.number size lost (held (T.Tray.meaning tray.old)) (row.0 + 1) work.new }
-{
-    if !row.is_dark(lost) {
-        let line = row.line(lost);
-        fetch_slot(tray, k.number + 1, line.0, work, line_slot(k, line), size);
+    // Finds the dark rows of the lost column, where the lines through its white places are read already; these lines are then
+    // left with the white places alone.
+    #[tactic(auto, using(crate::proofs::Benching::kept_none, crate::proofs::Halfway::rows_none, crate::proofs::Halfway::halfway_none), unfolding(code::specs::Numbers::count))]
+    fn regain_rows<T: Tray>(&mut self, tray: &mut T, lost: u32)
+        requires alone { Alone self.old.k.number (size_of self.old) (T.Tray.meaning tray.old) lost }
+        requires lines { HasLines lost (held (T.Tray.meaning tray.old)) (rows self.old.k.number) self.old }
+        ensures tray { T.Tray.meaning tray.new ≡ after_reads (T.Tray.meaning tray.old) (of_rows self.old.k.number lost (count (rows self.old.k.number) (λ i. dark i lost))) }
+        ensures work { GetsHalfway lost (held (T.Tray.meaning tray.old)) (rows self.old.k.number) self.old self.new }
+    {
+        for row in 0..self.k.rows() {
+            self.regain_if_dark(tray, lost, Row(row));
+        }
     }
-}
 
-// Reads the lines through the white places of the lost column.
-fn read_lines<T: Tray>(tray: &mut T, k: Width, lost: u32, size: usize, work: &mut [u8])
-    requires room { Room k.number size work.old }
-    requires alone { Alone k.number size (T.Tray.meaning tray.old) lost }
-    ensures tray { T.Tray.meaning tray.new ≡ after_reads (T.Tray.meaning tray.old) (times (k.number + 1) (rows k.number - count (rows k.number) (λ i. dark i lost))) }
-    ensures work { LinesRead k.number size lost (held (T.Tray.meaning tray.old)) (rows k.number) work.new }
-{
-    for row in 0..k.rows() {
-        read_if_white(tray, k, lost, Row(row), size, work);
+    // Goes on to the next row: if it is white for the lost column, the line through its place there is read.
+    #[tactic(auto, using(code::proofs::Limits::a_width, code::proofs::Rows::meets_lt, crate::proofs::Regaining::may_read))]
+    fn read_if_white<T: Tray>(&mut self, tray: &mut T, lost: u32, row: Row)
+        requires alone { Alone self.old.k.number (size_of self.old) (T.Tray.meaning tray.old) lost }
+        requires row { row.0 < rows self.old.k.number }
+        requires lines { HasLines lost (held (T.Tray.meaning tray.old)) row.0 self.old }
+        ensures tray { T.Tray.meaning tray.new ≡ after_reads (T.Tray.meaning tray.old) (times (self.old.k.number + 1) (if dark row.0 lost then 0 else 1)) }
+        ensures work { ReadsLines lost (held (T.Tray.meaning tray.old)) (row.0 + 1) self.old self.new }
+    {
+        if !row.is_dark(lost) {
+            let line = row.line(lost);
+            self.fetch_slot(tray, self.k.number + 1, line.0, self.line_slot(line));
+        }
     }
-}
 
-// Finds a data column that alone is out, reading half of every other column. Row i of it then lies in the slot of row i if
-// the place is dark, else in the slot of the line through it. The block is scratch space.
-pub(crate) fn regain<T: Tray>(
-    tray: &mut T,
-    k: Width,
-    column: u32,
-    block: &mut [u8],
-    work: &mut [u8],
-)
-    requires room { Room k.number (length block.old) work.old }
-    requires alone { Alone k.number (length block.old) (T.Tray.meaning tray.old) column }
-    ensures tray { T.Tray.meaning tray.new ≡ after_reads (T.Tray.meaning tray.old) (half_of k.number column) }
-    ensures work { Found k.number (published k.number) (length block.old) column (held (T.Tray.meaning tray.old)) work.new }
-{
-    read_lines(tray, k, column, block.len(), work);
-    regain_rows(tray, k, column, block, work);
+    // Reads the lines through the white places of the lost column.
+    fn read_lines<T: Tray>(&mut self, tray: &mut T, lost: u32)
+        requires { Alone self.old.k.number (size_of self.old) (T.Tray.meaning tray.old) lost }
+        ensures tray { T.Tray.meaning tray.new ≡ after_reads (T.Tray.meaning tray.old) (times (self.old.k.number + 1) (rows self.old.k.number - count (rows self.old.k.number) (λ i. dark i lost))) }
+        ensures work { ReadsLines lost (held (T.Tray.meaning tray.old)) (rows self.old.k.number) self.old self.new }
+    {
+        for row in 0..self.k.rows() {
+            self.read_if_white(tray, lost, Row(row));
+        }
+    }
+
+    // Finds a data column that alone is out, reading half of every other column. Row i of it then lies in the slot of row i
+    // if the place is dark, else in the slot of the line through it.
+    pub(crate) fn regain<T: Tray>(&mut self, tray: &mut T, column: u32)
+        requires { Alone self.old.k.number (size_of self.old) (T.Tray.meaning tray.old) column }
+        ensures tray { T.Tray.meaning tray.new ≡ after_reads (T.Tray.meaning tray.old) (half_of self.old.k.number column) }
+        ensures work { FindsSole column (held (T.Tray.meaning tray.old)) self.old self.new }
+    {
+        self.read_lines(tray, column);
+        self.regain_rows(tray, column);
+    }
 }
 
 // ---- one block

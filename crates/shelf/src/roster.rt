@@ -84,6 +84,7 @@ impl Roster {
         ensures value { result ≡ self.now.size }
         ensures low { 1 ≤ result }
         ensures high { result ≤ 512 }
+        ensures kept { keeps self.now.width self.now.size self.now.missing ≡ true }
     {
         self.size
     }

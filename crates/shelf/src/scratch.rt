@@ -11,7 +11,7 @@ pub(crate) struct Scratch {
 impl Scratch {
     // Room for the largest block.
     pub(crate) fn new() -> Scratch
-        ensures { length result.bytes ≡ 512 }
+        ensures { length result.bytes ≡ MOST_SIZE }
     {
         Scratch {
             bytes: [0; MOST_SIZE as usize],
@@ -20,7 +20,7 @@ impl Scratch {
 
     // Lends a block of `size` bytes.
     pub(crate) fn block(&mut self, size: u32) -> &mut [u8]
-        requires { size ≤ 512 }
+        requires { size ≤ MOST_SIZE }
         ensures { length result.now ≡ size }
     {
         &mut self.bytes[0..size as usize]

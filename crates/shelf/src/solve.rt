@@ -1,41 +1,13 @@
-// Solves two lost columns in the work space, once the sums of what is in service stand there.
-ghost use Rattle.std.specs.Prelude.{◌≡◌, ℕ, ◌+◌, ◌*◌, ◌<◌, ◌≤◌, true, false, length, if◌then◌else◌};
-ghost use Rattle.code.specs.Code.{Blocks, dark, rows};
+// Solves two lost columns on the bench, once the sums of what is in service stand there.
+ghost use Rattle.std.specs.Prelude.{◌≡◌, ◌+◌, ◌<◌, true, false, if◌then◌else◌};
+ghost use Rattle.code.specs.Code.{dark, rows};
 ghost use Rattle.code.specs.Laws.{rank};
 ghost use Rattle.code.specs.Neighbours.{published};
-ghost use Rattle.code.specs.Widths.{is_width};
-ghost use Rattle.shelf.specs.Slots.{Room};
-ghost use Rattle.shelf.specs.Solving.{Spread, Settled, Solving, before, Pair};
+ghost use Rattle.shelf.specs.Solving.{before, Pair};
 
-use crate::slots::{add, copy_slot};
-use crate::sums::{add_to_lines, line_slot};
+use crate::bench::Bench;
 use code::places::Row;
 use code::widths::Width;
-
-// Adds what the row slots hold, as blocks of a data column, to the lines that hold them.
-pub(crate) fn spread(work: &mut [u8], k: Width, column: u32, block: &mut [u8])
-    requires room { Room k.number (length block.old) work.old }
-    requires column { column < k.number }
-    ensures { Spread k.number (published k.number) (length block.old) work.old column work.new }
-{
-    for row in 0..k.rows() {
-        copy_slot(work, row as usize, block);
-        add_to_lines(work, k, Row(row), column, None, block);
-    }
-}
-
-// Settles a row of which all of lower rank are settled: its line has its block of column p, which goes off the other sums.
-fn settle(work: &mut [u8], k: Width, p: u32, q: u32, row: Row, block: &mut [u8])
-    requires room { Room k.number (length block.old) work.old }
-    requires row { row.0 < rows k.number }
-    requires p { p < k.number }
-    ensures { Settled k.number (published k.number) (length block.old) p q row.0 work.old work.new }
-{
-    copy_slot(work, line_slot(k, row.line(p)), block);
-    add(work, row.0 as usize, block);
-    add_to_lines(work, k, row, p, Some(p), block);
-    add_to_lines(work, k, row, q, None, block);
-}
 
 // 1 where the place in a row of a column is white, else 0.
 fn white(row: Row, column: u32) -> u32
@@ -54,36 +26,60 @@ fn rank_of(k: Width, p: u32, q: u32, row: Row) -> u32
     2 * others + (1 - white(row, q))
 }
 
-// Settles a row if it has this rank.
-fn settle_at(work: &mut [u8], k: Width, p: u32, q: u32, at: u32, row: Row, block: &mut [u8])
-    requires room { Room k.number (length block.old) work.old }
-    requires row { row.0 < rows k.number }
-    requires pair { Pair k.number (published k.number) p q }
-    ensures { (D : ℕ → Blocks) → Solving k.number (published k.number) (length block.old) p q D (before k.number p q at row.0) work.old → Solving k.number (published k.number) (length block.old) p q D (before k.number p q at (row.0 + 1)) work.new }
-{
-    if rank_of(k, p, q, row) == at {
-        settle(work, k, p, q, row, block);
-    }
-}
+impl<'a> Bench<'a> {
+    ghost use Rattle.shelf.specs.Benches.{Spreads, Settles, Leads};
 
-// Settles the rows of one rank.
-fn settle_rank(work: &mut [u8], k: Width, p: u32, q: u32, at: u32, block: &mut [u8])
-    requires room { Room k.number (length block.old) work.old }
-    requires pair { Pair k.number (published k.number) p q }
-    ensures { (D : ℕ → Blocks) → Solving k.number (published k.number) (length block.old) p q D (before k.number p q at 0) work.old → Solving k.number (published k.number) (length block.old) p q D (before k.number p q (at + 1) 0) work.new }
-{
-    for row in 0..k.rows() {
-        settle_at(work, k, p, q, at, Row(row), block);
+    // Adds what the row slots hold, as blocks of a data column, to the lines that hold them.
+    pub(crate) fn spread(&mut self, column: u32)
+        requires { column < self.old.k.number }
+        ensures { Spreads column self.old self.new }
+    {
+        for row in 0..self.k.rows() {
+            self.copy_slot(row as usize);
+            self.add_to_lines(Row(row), column, None);
+        }
     }
-}
 
-// Settles all rows, by rising rank.
-pub(crate) fn solve(work: &mut [u8], k: Width, p: u32, q: u32, block: &mut [u8])
-    requires room { Room k.number (length block.old) work.old }
-    requires pair { Pair k.number (published k.number) p q }
-    ensures { (D : ℕ → Blocks) → Solving k.number (published k.number) (length block.old) p q D (λ _. false) work.old → Solving k.number (published k.number) (length block.old) p q D (λ _. true) work.new }
-{
-    for at in 0..2 * k.number + 2 {
-        settle_rank(work, k, p, q, at, block);
+    // Settles a row of which all of lower rank are settled: its line has its block of column p, which goes off the other sums.
+    fn settle(&mut self, p: u32, q: u32, row: Row)
+        requires row { row.0 < rows self.old.k.number }
+        requires p { p < self.old.k.number }
+        ensures { Settles p q row.0 self.old self.new }
+    {
+        self.copy_slot(self.line_slot(row.line(p)));
+        self.add(row.0 as usize);
+        self.add_to_lines(row, p, Some(p));
+        self.add_to_lines(row, q, None);
+    }
+
+    // Settles a row if it has this rank.
+    fn settle_at(&mut self, p: u32, q: u32, at: u32, row: Row)
+        requires row { row.0 < rows self.old.k.number }
+        requires pair { Pair self.old.k.number (published self.old.k.number) p q }
+        ensures { Leads p q (before self.old.k.number p q at row.0) (before self.old.k.number p q at (row.0 + 1)) self.old self.new }
+    {
+        if rank_of(self.k, p, q, row) == at {
+            self.settle(p, q, row);
+        }
+    }
+
+    // Settles the rows of one rank.
+    fn settle_rank(&mut self, p: u32, q: u32, at: u32)
+        requires { Pair self.old.k.number (published self.old.k.number) p q }
+        ensures { Leads p q (before self.old.k.number p q at 0) (before self.old.k.number p q (at + 1) 0) self.old self.new }
+    {
+        for row in 0..self.k.rows() {
+            self.settle_at(p, q, at, Row(row));
+        }
+    }
+
+    // Settles all rows, by rising rank.
+    pub(crate) fn solve(&mut self, p: u32, q: u32)
+        requires { Pair self.old.k.number (published self.old.k.number) p q }
+        ensures { Leads p q (λ _. false) (λ _. true) self.old self.new }
+    {
+        for at in 0..2 * self.k.number + 2 {
+            self.settle_rank(p, q, at);
+        }
     }
 }

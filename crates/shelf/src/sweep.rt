@@ -1,20 +1,17 @@
 // A sweep (a scrub, in the field's words): compares both parities of a whole shelf with its data.
-ghost use Rattle.std.specs.Prelude.{◌≡◌, ◌+◌, ◌<◌, true, length};
-ghost use Rattle.code.specs.Code.{rows};
+ghost use Rattle.std.specs.Prelude.{◌≡◌, length};
 ghost use Rattle.code.specs.Neighbours.{published};
-ghost use Rattle.code.specs.Widths.{is_width};
 ghost use Rattle.law.specs.Holding.{Calm};
 ghost use Rattle.law.specs.Calls.{Finding};
 ghost use Rattle.law.specs.Promises.{Spares};
 ghost use Rattle.shelf.specs.Missing.{is_out};
 ghost use Rattle.shelf.specs.Checks.{sweeping, verdict_of};
 ghost use Rattle.shelf.specs.Promises.{SweepsOn};
-ghost use Rattle.shelf.specs.Slots.{Room};
 ghost use Rattle.shelf.specs.Reading.{Heard};
 ghost use Rattle.shelf.specs.Sweeping.{place_of, parity_place, Compared, SweepCarries};
 
+use crate::bench::Bench;
 use crate::blocks::fetch;
-use crate::gather::gather;
 use crate::roster::Roster;
 use crate::roster::missing::Missing;
 use crate::scratch::Scratch;
@@ -54,43 +51,44 @@ impl Parity {
     }
 }
 
-// The first parity place, column k by rows and then column k + 1 by lines, that does not hold what its slot does.
-fn first_misfit<T: Tray>(
-    tray: &mut T,
-    k: Width,
-    block: &mut [u8],
-    work: &[u8],
-) -> Option<(u32, u32)>
-    requires room { Room k.number (length block.old) work.now }
-    requires heard { Heard k.number (length block.old) (is_out Missing.Nothing) (T.Tray.meaning tray.old) }
-    ensures tray { Calm (T.Tray.meaning tray.old) (T.Tray.meaning tray.new) }
-    ensures found { Compared k.number (length block.old) (T.Tray.meaning tray.old) work.now result }
-{
-    let mut found = None;
-    let slots = 2 * k.rows();
-    'places: for slot in 0..slots {
-        let (column, row) = Parity::in_slot(k, slot).place(k);
-        fetch(tray, column, row, block);
-        let at = slot as usize * block.len();
-        for (i, byte) in block.iter().enumerate() {
-            if *byte != work[at + i] {
-                found = Some((column, row));
-                break 'places;
+impl<'a> Bench<'a> {
+    ghost use Rattle.shelf.specs.Benches.{size_of};
+
+    // The first parity place, column k by rows and then column k + 1 by lines, that does not hold what its slot does.
+    fn first_misfit<T: Tray>(&mut self, tray: &mut T) -> Option<(u32, u32)>
+        requires { Heard self.old.k.number (size_of self.old) (is_out Missing.Nothing) (T.Tray.meaning tray.old) }
+        ensures tray { Calm (T.Tray.meaning tray.old) (T.Tray.meaning tray.new) }
+        ensures found { Compared self.old.k.number (size_of self.old) (T.Tray.meaning tray.old) self.old.work.now result }
+    {
+        // the loops are left by the label with the place found, and a range of slots is what the outer one goes over
+        let mut found = None;
+        let k = self.k;
+        let block = &mut *self.block;
+        let work = &*self.work;
+        let slots = 2 * k.rows();
+        'places: for slot in 0..slots {
+            let (column, row) = Parity::in_slot(k, slot).place(k);
+            fetch(tray, column, row, block);
+            let at = slot as usize * block.len();
+            for (i, byte) in block.iter().enumerate() {
+                if *byte != work[at + i] {
+                    found = Some((column, row));
+                    break 'places;
+                }
             }
         }
+        found
     }
-    found
-}
 
-// Compares both parities with the data, on a tray whose columns all answer. The block is scratch space.
-fn compare<T: Tray>(tray: &mut T, k: Width, block: &mut [u8], work: &mut [u8]) -> Option<(u32, u32)>
-    requires room { Room k.number (length block.old) work.old }
-    requires heard { Heard k.number (length block.old) (is_out Missing.Nothing) (T.Tray.meaning tray.old) }
-    ensures tray { Calm (T.Tray.meaning tray.old) (T.Tray.meaning tray.new) }
-    ensures found { Finding k.number (published k.number) (length block.old) (T.Tray.meaning tray.old) result }
-{
-    gather(tray, k, Missing::Nothing, block, work);
-    first_misfit(tray, k, block, work)
+    // Compares both parities with the data, on a tray whose columns all answer.
+    fn compare<T: Tray>(&mut self, tray: &mut T) -> Option<(u32, u32)>
+        requires { Heard self.old.k.number (size_of self.old) (is_out Missing.Nothing) (T.Tray.meaning tray.old) }
+        ensures tray { Calm (T.Tray.meaning tray.old) (T.Tray.meaning tray.new) }
+        ensures found { Finding self.old.k.number (published self.old.k.number) (size_of self.old) (T.Tray.meaning tray.old) result }
+    {
+        self.gather(tray, Missing::Nothing);
+        self.first_misfit(tray)
+    }
 }
 
 impl Roster {
@@ -104,6 +102,11 @@ impl Roster {
     {
         self.check_sweep(tray, work.len())?;
         let mut scratch = Scratch::new();
-        Ok(compare(tray, self.width(), scratch.block(self.size()), work))
+        let mut bench = Bench {
+            k: self.width(),
+            block: scratch.block(self.size()),
+            work,
+        };
+        Ok(bench.compare(tray))
     }
 }

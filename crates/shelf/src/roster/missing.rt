@@ -2,6 +2,7 @@
 ghost use Rattle.std.specs.Prelude.{◌≡◌};
 ghost use Rattle.shelf.specs.Missing.{is_out, is_empty, is_full, added, removed};
 
+// A set of at most two that knows which came last, so that taking that one back leaves it as it was before.
 #[derive(Clone, Copy)]
 pub enum Missing {
     Nothing,

@@ -1,18 +1,14 @@
 use Rattle.std.proofs.Common.{length, Ok, sym, refl, ◌∙◌, subst}
 use Rattle.std.proofs.lemmas.Result.{err_from_is_err_and}
 use Rattle.shelf.specs.Promises.{SweepsOn}
-use Rattle.shelf.proofs.Limits.{is_width-kept}
 use Rattle.shelf.proofs.Promised.{sweep_goes_on}
 use Rattle.shelf.proofs.Sweeping.{sweep_ready, swept}
 use Rattle.shelf.proofs.roster.Roster.sweep.Goals as goal
 
-pub compare-requires-clause-heard : goal.compare-requires-clause-heard
-compare-requires-clause-heard g c =
-    let h =
-    sweep_ready c.args.self.now (g.T.Tray.meaning c.args.tray.now) c.args.work.now
-    (sym c.check_sweep.ensures ∙ c.in_ok-check_sweep.was) (is_width-kept c.args.self.now c.width.ensures.kept)
-    c.width.result.number c.width.ensures.value (length c.block.result.now) (c.block.ensures ∙ c.size.ensures.value) in
-    h.1
+pub compare-requires : goal.compare-requires
+compare-requires g c =
+    sweep_ready c.args.self.now (g.T.Tray.meaning c.args.tray.now) _ (sym c.check_sweep.ensures ∙ c.in_ok-check_sweep.was)
+    _ c.width.ensures.value _ (c.block.ensures ∙ c.size.ensures.value)
 
 pub returns-clause-carries : goal.returns-clause-carries
 returns-clause-carries g c =
