@@ -9,11 +9,11 @@ use Rattle.shelf.specs.Benches.{Kept, SlotAdds, Adds, size_of}
 use Rattle.shelf.proofs.Adding.{plus_none, plus_same, plus_plus, plus_row, plus_line}
 
 pub kept_none : (s : Bench) → Kept s s
-kept_none s = record { width = refl; size = refl; block-lender = refl; work-lender = refl }
+kept_none s = record { width = refl; size = refl; room = refl; block-lender = refl; work-lender = refl }
 
 pub kept_then : (a b c : Bench) → Kept a b → Kept b c → Kept a c
 kept_then a b c p q =
-    record { width = q.width ∙ p.width; size = q.size ∙ p.size; block-lender = q.block-lender ∙ p.block-lender; work-lender = q.work-lender ∙ p.work-lender }
+    record { width = q.width ∙ p.width; size = q.size ∙ p.size; room = q.room ∙ p.room; block-lender = q.block-lender ∙ p.block-lender; work-lender = q.work-lender ∙ p.work-lender }
 
 pub adds_none : (f : ℕ → ℕ → ℕ) (s : Bench) → ((b n : ℕ) → nothing b n ≡ f b n) → Adds nothing f s s
 adds_none f s e =

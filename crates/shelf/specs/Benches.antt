@@ -14,10 +14,11 @@ use Rattle.shelf.specs.Regaining.{lines_but, RowFound, LinesRead, Halfway}
 use Rattle.shelf.specs.Regaining as regaining
 use Rattle.shelf.specs.Solving.{from_rows, Settled, Solving}
 
--- the bench keeps its width, the size of its block and both of its borrows
+-- the bench keeps its width, the lengths of its block and of its work space, and both of its borrows
 pub record Kept (old new : Bench) : Type 0 where
   pub width : new.k ≡ old.k
   pub size : length new.block.now ≡ length old.block.now
+  pub room : length new.work.now ≡ length old.work.now
   pub block-lender : new.block.ghost_name ≡ old.block.ghost_name
   pub work-lender : new.work.ghost_name ≡ old.work.ghost_name
 
@@ -54,7 +55,7 @@ abbrev pub AddsPlace : ℕ → ℕ → Bench → Bench → Type 0
 AddsPlace i j old =
     Adds (λ b. horizontal old.k.number (one i j old.block.now b)) (λ b. butterfly old.k.number (published old.k.number) (one i j old.block.now b)) old
 
--- the same, where the block may end as anything
+-- what was added to each row's slot and to each line's; the block may end as anything
 pub record AddsSums (g f : ℕ → ℕ → ℕ) (old new : Bench) : Type 0 where
   pub kept : Kept old new
   pub work : Plus old.k.number (size_of old) old.work.now g f new.work.now
@@ -66,6 +67,7 @@ AddsData E old = AddsSums (λ b. horizontal old.k.number (E b)) (λ b. butterfly
 -- the slots from `first` on, n of them, were filled with `f`
 pub record Fills (first n : ℕ) (f : ℕ → ℕ → ℕ) (old new : Bench) : Type 0 where
   pub kept : Kept old new
+  pub block : new.block.now ≡ old.block.now
   pub work : Filled (size_of old) old.work.now first n f new.work.now
 
 -- the sums on the bench are those of what a tray has in service
@@ -113,14 +115,17 @@ pub record FindsRow (j : ℕ) (M : ℕ → Blocks) (i : ℕ) (old new : Bench) :
 abbrev pub HasLines : ℕ → (ℕ → Blocks) → ℕ → Bench → Type 0
 HasLines j M n s = LinesRead s.k.number (size_of s) j M n s.work.now
 
+-- the same after a call, which leaves the block
 pub record ReadsLines (j : ℕ) (M : ℕ → Blocks) (n : ℕ) (old new : Bench) : Type 0 where
   pub kept : Kept old new
+  pub block : new.block.now ≡ old.block.now
   pub work : LinesRead old.k.number (size_of old) j M n new.work.now
 
 -- the dark rows below n are found, and their data are added to the lines of the white rows
 abbrev pub IsHalfway : ℕ → (ℕ → Blocks) → ℕ → Bench → Type 0
 IsHalfway j M n s = Halfway s.k.number (published s.k.number) (size_of s) j M n s.work.now
 
+-- the same after a call
 pub record GetsHalfway (j : ℕ) (M : ℕ → Blocks) (n : ℕ) (old new : Bench) : Type 0 where
   pub kept : Kept old new
   pub work : Halfway old.k.number (published old.k.number) (size_of old) j M n new.work.now

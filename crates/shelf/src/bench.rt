@@ -1,4 +1,4 @@
-// The bench of a call: the width, scratch space for a block, and the work space, cut into slots of that size: one for each
+// The bench of a call: the width, a block to work in, and the work space, cut into slots of that size: one for each
 // row, and behind them one for each line.
 ghost use Rattle.std.specs.Prelude.{◌≡◌, ◌+◌, ◌<◌, length};
 ghost use Rattle.tray.specs.Meaning.{tallied};
@@ -55,11 +55,12 @@ impl<'a> Bench<'a> {
 
     // Reads a block of a tray straight into a slot.
     pub(crate) fn fetch_slot<T: Tray>(&mut self, tray: &mut T, column: u32, row: u32, slot: usize)
-        requires ready { Ready (T.Tray.meaning tray.old) column row (length self.old.block.now) }
+        requires ready { Ready (T.Tray.meaning tray.old) column row (size_of self.old) }
         requires within { slot < rows self.old.k.number + rows self.old.k.number }
         ensures kept { Kept self.old self.new }
+        ensures block { self.new.block.now ≡ self.old.block.now }
         ensures tray { T.Tray.meaning tray.new ≡ tallied (T.Tray.meaning tray.old) column }
-        ensures work { SlotSet (length self.old.block.now) self.old.work.now slot (λ b. held (T.Tray.meaning tray.old) b row column) self.new.work.now }
+        ensures work { SlotSet (size_of self.old) self.old.work.now slot (λ b. held (T.Tray.meaning tray.old) b row column) self.new.work.now }
     {
         let size = self.block.len();
         let at = slot * size;

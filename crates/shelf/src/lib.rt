@@ -4,8 +4,8 @@
 // - A row and a column are numbers with no collection behind them, so loops over them go over ranges.
 // - The step of a loop is a function of its own where it is an `if` round a call, since what one arm did is lost to the
 //   proof where the arms meet.
-// - What a call works with, the width, a block of scratch space and the work space, is its `Bench`. Behind a `&mut` each
-//   contract says by `Kept` that the width and the lengths stay.
+// - What a call works with, the width, a block to work in and the work space, is its `Bench`. Behind a `&mut` a contract
+//   says by `Kept` that the width, the lengths and both borrows stay.
 #![tactic(auto)]
 
 mod bench;

@@ -17,6 +17,7 @@ returns-then-is_read g c =
       tray = c.load.ensures.tray ∙ ap (λ b. after_reads m (times c.args.column (cond b (rows s.k.number) 0))) (sym e);
       work = record {
         kept = c.load.ensures.work.kept;
+        block = c.load.ensures.work.block;
         work = filled_same (length s.block.now) s.work.now c.args.first (rows s.k.number) _ (λ r b. only c.args.is_read (held m b r c.args.column)) _
             (λ r b. ap (λ p. only p (held m b r c.args.column)) (sym e)) c.load.ensures.work.work;
       };
@@ -32,6 +33,7 @@ returns-else-is_read g c =
       tray = column_none m c.args.column (g.T.Tray.wraps c.args.tray.now) ∙ ap (λ b. after_reads m (times c.args.column (cond b (rows s.k.number) 0))) (sym e);
       work = record {
         kept = c.clear.ensures.kept;
+        block = c.clear.ensures.block;
         work = filled_same (length s.block.now) s.work.now c.args.first (rows s.k.number) _ (λ r b. only c.args.is_read (held m b r c.args.column)) _
             (λ r b. ap (λ p. only p (held m b r c.args.column)) (sym e)) c.clear.ensures.work;
       };

@@ -19,7 +19,8 @@ returns c =
     omega (arith, mul-le-mul_right {m = first + n} {n = 2 * rows s.k.number} size (omega (arith, c.rows.ensures.value)), s.room.large) in
     let l : first * size + n * size ≤ length work = omega (arith, add-mul first n size, fits) in
     record {
-      kept = record { width = refl; size = refl; block-lender = refl; work-lender = refl };
+      kept = record { width = refl; size = refl; room = omega arith; block-lender = refl; work-lender = refl };
+      block = refl;
       work = subst (λ m. Filled size work first m (λ _ _. 0) (put_mid (first * size) (first * size + n * size - first * size) work zeros)) c.rows.ensures.value
           (slots_zeroed size work first n zeros fits (omega arith) (λ k. grind (arith, places)));
     }
