@@ -52,19 +52,21 @@ impl Parity {
 }
 
 impl<'a> Bench<'a> {
-    ghost use Rattle.shelf.specs.Benches.{size_of};
+    ghost use Rattle.shelf.specs.Benches.{Kept, size_of};
 
     // The first parity place, column k by rows and then column k + 1 by lines, that does not hold what its slot does.
     fn first_misfit<T: Tray>(&mut self, tray: &mut T) -> Option<(u32, u32)>
         requires { Heard self.old.k.number (size_of self.old) (is_out Missing.Nothing) (T.Tray.meaning tray.old) }
         ensures tray { Calm (T.Tray.meaning tray.old) (T.Tray.meaning tray.new) }
+        ensures kept { Kept self.old self.new }
+        ensures work { self.new.work.now ≡ self.old.work.now }
         ensures found { Compared self.old.k.number (size_of self.old) (T.Tray.meaning tray.old) self.old.work.now result }
     {
         // the loops are left by the label with the place found, and a range of slots is what the outer one goes over
         let mut found = None;
         let k = self.k;
         let block = &mut *self.block;
-        let work = &*self.work;
+        let work = &mut *self.work;
         let slots = 2 * k.rows();
         'places: for slot in 0..slots {
             let (column, row) = Parity::in_slot(k, slot).place(k);
