@@ -76,7 +76,7 @@ pub record Gathers (out : Columns) (m : Meaning) (old new : Bench) : Type 0 wher
   pub work : Gathered old.k.number (published old.k.number) (size_of old) out m new.work.now
 
 -- whatever tray they were gathered from, the sums were turned into the missing columns, and `by` lies by rows
-pub record Recovers (out : Missing) (by : ℕ) (old new : Bench) : Type 0 where
+pub record FindsMissing (out : Missing) (by : ℕ) (old new : Bench) : Type 0 where
   pub kept : Kept old new
   pub work : Finds old.k.number (published old.k.number) (size_of old) out old.work.now by new.work.now
 
@@ -85,7 +85,7 @@ abbrev pub Spreads : ℕ → Bench → Bench → Type 0
 Spreads j old = AddsSums nothing (λ b. butterfly old.k.number (published old.k.number) (from_rows (size_of old) old.work.now j b)) old
 
 -- every missing column is found, for whatever data the columns in service fit
-pub record Regains (out : Columns) (m : Meaning) (by : ℕ) (old new : Bench) : Type 0 where
+pub record Recovers (out : Columns) (m : Meaning) (by : ℕ) (old new : Bench) : Type 0 where
   pub kept : Kept old new
   pub work : Found old.k.number (published old.k.number) (size_of old) out m by new.work.now
 

@@ -29,7 +29,7 @@ pub(crate) fn slot_for(k: Width, by: u32, column: u32, row: Row) -> usize
 }
 
 impl<'a> Bench<'a> {
-    ghost use Rattle.shelf.specs.Benches.{Recovers, Regains, size_of};
+    ghost use Rattle.shelf.specs.Benches.{FindsMissing, Recovers, size_of};
 
     // Finds two data columns, and answers the one that lies by rows: of the two, the one that has the other for a right
     // neighbour.
@@ -37,7 +37,7 @@ impl<'a> Bench<'a> {
         requires a { a < self.old.k.number }
         requires b { b < self.old.k.number }
         requires apart { a ≢ b }
-        ensures { Recovers (Missing.Two a b) result self.old self.new }
+        ensures { FindsMissing (Missing.Two a b) result self.old self.new }
     {
         if is_right(self.k.number, b, a) {
             self.spread(b);
@@ -55,7 +55,7 @@ impl<'a> Bench<'a> {
         requires column { column < self.old.k.number }
         requires parity { self.old.k.number ≤ parity }
         requires below { parity < self.old.k.number + 2 }
-        ensures { Recovers (Missing.Two column parity) result self.old self.new }
+        ensures { FindsMissing (Missing.Two column parity) result self.old self.new }
     {
         let k = self.k.number;
         if parity == k {
@@ -70,7 +70,7 @@ impl<'a> Bench<'a> {
     // Finds two columns, and answers the one that lies by rows.
     fn find_two(&mut self, a: u32, b: u32) -> u32
         requires { are_columns self.old.k.number (Missing.Two a b) ≡ true }
-        ensures { Recovers (Missing.Two a b) result self.old self.new }
+        ensures { FindsMissing (Missing.Two a b) result self.old self.new }
     {
         let k = self.k.number;
         if a >= k && b >= k {
@@ -88,7 +88,7 @@ impl<'a> Bench<'a> {
     fn find(&mut self, out: Missing) -> u32
         requires columns { are_columns self.old.k.number out ≡ true }
         requires several { is_sole_data self.old.k.number out ≡ false }
-        ensures { Recovers out result self.old self.new }
+        ensures { FindsMissing out result self.old self.new }
     {
         match out {
             Missing::Nothing => self.k.number,
@@ -103,7 +103,7 @@ impl<'a> Bench<'a> {
         requires columns { are_columns self.old.k.number out ≡ true }
         requires several { is_sole_data self.old.k.number out ≡ false }
         ensures tray { T.Tray.meaning tray.new ≡ after_reads (T.Tray.meaning tray.old) (once_each self.old.k.number (is_out out)) }
-        ensures work { Regains (is_out out) (T.Tray.meaning tray.old) result self.old self.new }
+        ensures work { Recovers (is_out out) (T.Tray.meaning tray.old) result self.old self.new }
     {
         self.gather(tray, out);
         self.find(out)

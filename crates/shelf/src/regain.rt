@@ -13,6 +13,7 @@ ghost use Rattle.shelf.specs.Blocks.{Ready};
 use crate::bench::Bench;
 use crate::blocks::fetch;
 use crate::slots::add;
+use crate::sums::line_slot;
 use code::lines::is_taken;
 use code::places::{Line, Row};
 use code::widths::Width;
@@ -104,7 +105,7 @@ impl<'a> Bench<'a> {
     {
         if !row.is_dark(lost) {
             let line = row.line(lost);
-            self.fetch_slot(tray, self.k.number + 1, line.0, self.line_slot(line));
+            self.fetch_slot(tray, self.k.number + 1, line.0, line_slot(self.k, line));
         }
     }
 

@@ -6,6 +6,7 @@ ghost use Rattle.code.specs.Neighbours.{published};
 ghost use Rattle.shelf.specs.Solving.{before, Pair};
 
 use crate::bench::Bench;
+use crate::sums::line_slot;
 use code::places::Row;
 use code::widths::Width;
 
@@ -46,7 +47,7 @@ impl<'a> Bench<'a> {
         requires p { p < self.old.k.number }
         ensures { Settles p q row.0 self.old self.new }
     {
-        self.copy_slot(self.line_slot(row.line(p)));
+        self.copy_slot(line_slot(self.k, row.line(p)));
         self.add(row.0 as usize);
         self.add_to_lines(row, p, Some(p));
         self.add_to_lines(row, q, None);

@@ -28,13 +28,6 @@ fn is_passed(k: Width, row: Row, column: u32, skip: Option<u32>, through: u32) -
 impl<'a> Bench<'a> {
     ghost use Rattle.shelf.specs.Benches.{Adds, AddsPlace};
 
-    // The slot of a line.
-    pub(crate) fn line_slot(&self, line: Line) -> usize
-        ensures { result ≡ rows self.now.k.number + line.0 }
-    {
-        line_slot(self.k, line)
-    }
-
     // Adds the block, of the place in `column`, to the line that meets the column `through` in this row, if it goes there.
     fn add_through(&mut self, row: Row, column: u32, skip: Option<u32>, through: u32)
         requires row { row.0 < rows self.old.k.number }
@@ -42,7 +35,7 @@ impl<'a> Bench<'a> {
         ensures { Adds nothing (λ b n. only (n == meets row.0 through && passes (published self.old.k.number) row.0 column (to_skip self.old.k.number skip) through) (slice_index self.old.block.now b)) self.old self.new }
     {
         if is_passed(self.k, row, column, skip, through) {
-            self.add(self.line_slot(row.line(through)));
+            self.add(line_slot(self.k, row.line(through)));
         }
     }
 
