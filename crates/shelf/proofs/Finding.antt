@@ -14,8 +14,9 @@ use Rattle.law.specs.Service.{Columns}
 use Rattle.law.specs.Holding.{Data, held, Fits}
 use Rattle.shelf.specs.Slots.{slot, row_slot, line_slot}
 use Rattle.shelf.specs.Reading.{served, data_out, parity_read, Gathered}
-use Rattle.shelf.specs.Solving.{from_rows, Spread, unknown, Solving}
+use Rattle.shelf.specs.Solving.{from_rows, unknown, Solving}
 use Rattle.shelf.specs.Recovering.{slot_for}
+use Rattle.shelf.proofs.Spreading.{Spread}
 
 -- the blocks of data in the columns that are out, and in those in service
 abbrev pub lost : Columns → Blocks → Blocks

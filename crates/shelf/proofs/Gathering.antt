@@ -13,10 +13,14 @@ use Rattle.code.proofs.Linear.{difference, horizontal_same, butterfly_same, hori
 use Rattle.code.proofs.Lost.{beside_none, gives_none}
 use Rattle.law.specs.Service.{Columns}
 use Rattle.law.specs.Holding.{held}
-use Rattle.shelf.specs.Slots.{Filled, nothing, Summed, one}
+use Rattle.shelf.specs.Slots.{Filled, Plus, nothing, one}
 use Rattle.shelf.specs.Blocks.{Ready}
 use Rattle.shelf.specs.Reading.{Answers, Heard, after_reads, times, each_below, once_each, part, in_service, served, parity_read, is_read, Gathered}
 use Rattle.shelf.proofs.Adding.{plus_none, plus_same, plus_plus, row_filled, line_filled}
+
+-- the sums of data E, lane by lane, were added
+abbrev pub Summed : ℕ → Rule → ℕ → List ℕ → (ℕ → Blocks) → List ℕ → Type 0
+Summed k right size was E after = Plus k size was (λ b. horizontal k (E b)) (λ b. butterfly k right (E b)) after
 
 -- ---- tallies
 

@@ -16,10 +16,11 @@ use Rattle.shelf.specs.declared.roster.missing.Missing.TheVariants.{Two}
 use Rattle.shelf.specs.Missing.{is_out}
 use Rattle.shelf.specs.Slots.{slot, row_slot}
 use Rattle.shelf.specs.Reading.{data_out, parity_read, Gathered}
-use Rattle.shelf.specs.Solving.{from_rows, Spread, Solving}
+use Rattle.shelf.specs.Solving.{from_rows, Solving}
 use Rattle.shelf.specs.Recovering.{slot_for, Found, Finds}
 use Rattle.shelf.proofs.Outs.{any_two_of}
 use Rattle.shelf.proofs.Finding.{row_lost, row_kept, line_lost, line_kept, start_two, start_one, solved_at, row_of_one, kept}
+use Rattle.shelf.proofs.Spreading.{Spread}
 
 module _ (k by c r : ℕ) where
   pub by_rows : c ≡ by → slot_for k by c r ≡ r

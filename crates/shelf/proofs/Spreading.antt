@@ -8,10 +8,14 @@ use Rattle.code.specs.Neighbours.{Tournament}
 use Rattle.code.proofs.Linear.{difference, butterfly_same, butterfly_xor}
 use Rattle.shelf.specs.Slots.{slot, row_slot, line_slot, IsSlot, SlotAdded, Plus, nothing, one, holds_but, to_lines}
 use Rattle.shelf.specs.Reading.{part}
-use Rattle.shelf.specs.Solving.{from_rows, Spread, Settled}
+use Rattle.shelf.specs.Solving.{from_rows, Settled}
 use Rattle.shelf.proofs.Adding.{plus_none, plus_same, plus_plus, plus_row}
 use Rattle.shelf.proofs.Holding.{lines_of_one}
 use Rattle.shelf.proofs.Gathering.{part_none, part_more, line_none}
+
+-- what the row slots hold was added, as blocks of column j, to the lines that hold them
+abbrev pub Spread : ℕ → Rule → ℕ → List ℕ → ℕ → List ℕ → Type 0
+Spread k right size was j after = Plus k size was nothing (λ b. butterfly k right (from_rows size was j b)) after
 
 -- ---- one row after the other
 

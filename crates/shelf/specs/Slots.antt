@@ -1,7 +1,7 @@
 -- The work space of a call: a slot of one block for each row, and behind them one for each line.
 use Rattle.std.specs.Prelude.{◌≡◌, ℕ, ◌+◌, ◌-◌, ◌*◌, ◌<◌, ◌≤◌, Bool, cond, not, ◌&&◌, Some, None, Option, List, length, ◌==◌, bit_xor, nat_le, nat_lt, slice_index}
 use Rattle.code.specs.Numbers.{only, xorsum}
-use Rattle.code.specs.Code.{Blocks, Rule, spot, rows, meets, horizontal, butterfly}
+use Rattle.code.specs.Code.{Blocks, Rule, spot, rows, meets}
 use Rattle.code.specs.Lines.{takes, holds}
 
 -- byte b of slot s, where slots have `size` bytes
@@ -49,10 +49,6 @@ pub record Plus (k size : ℕ) (was : List ℕ) (g f : ℕ → ℕ → ℕ) (aft
 
 abbrev pub nothing : ℕ → ℕ → ℕ
 nothing b s = 0
-
--- the sums of data E, lane by lane, were added
-abbrev pub Summed : ℕ → Rule → ℕ → List ℕ → (ℕ → Blocks) → List ℕ → Type 0
-Summed k right size was E after = Plus k size was (λ b. horizontal k (E b)) (λ b. butterfly k right (E b)) after
 
 -- a block x in row i of column j, and nothing elsewhere, lane by lane
 abbrev pub one : ℕ → ℕ → List ℕ → ℕ → Blocks

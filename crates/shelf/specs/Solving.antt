@@ -4,15 +4,11 @@ use Rattle.std.specs.Prelude.{◌≡◌, ℕ, ◌<◌, ◌≤◌, Bool, true, fa
 use Rattle.code.specs.Numbers.{only}
 use Rattle.code.specs.Code.{Blocks, Rule, rows, meets, butterfly, value}
 use Rattle.code.specs.Laws.{rank}
-use Rattle.shelf.specs.Slots.{row_slot, line_slot, Plus, nothing, holds_but}
+use Rattle.shelf.specs.Slots.{row_slot, line_slot, Plus, holds_but}
 
 -- the row slots of lane b as blocks of column j, and nothing elsewhere
 abbrev pub from_rows : ℕ → List ℕ → ℕ → ℕ → Blocks
 from_rows size work j b i c = only (c == j) (row_slot size work b i)
-
--- what the row slots hold was added, as blocks of column j, to the lines that hold them
-abbrev pub Spread : ℕ → Rule → ℕ → List ℕ → ℕ → List ℕ → Type 0
-Spread k right size was j after = Plus k size was nothing (λ b. butterfly k right (from_rows size was j b)) after
 
 -- row v was settled: what its line holds was added to its row, and as blocks of p and of q to the other lines that hold them
 abbrev pub Settled : ℕ → Rule → ℕ → ℕ → ℕ → ℕ → List ℕ → List ℕ → Type 0
