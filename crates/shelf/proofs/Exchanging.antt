@@ -6,15 +6,12 @@ use Rattle.std.proofs.lemmas.Bool.Decides.{nat_tests}
 use Rattle.tray.specs.Meaning.{Meaning, stored}
 use Rattle.code.specs.Code.{Rule, rows}
 use Rattle.code.specs.Lines.{holds}
-use Rattle.code.specs.Neighbours.{published}
 use Rattle.law.specs.Service.{Columns}
 use Rattle.law.specs.Holding.{held, SameFrame, Calm}
 use Rattle.law.specs.Hand.{AtHand}
 use Rattle.law.specs.Calls.{writes, Put}
 use Rattle.law.proofs.Hand.{which}
 use Rattle.law.proofs.Writes.{writes_data, writes_sum, writes_line}
-use Rattle.shelf.specs.declared.roster.missing.Missing.{Missing}
-use Rattle.shelf.specs.Missing.{is_out}
 use Rattle.shelf.specs.Regaining.{BytesAdded}
 use Rattle.shelf.specs.Parities.{AddedAt, parities_of}
 use Rattle.shelf.proofs.Frames.{frame_twice, frame_written}
@@ -124,11 +121,3 @@ module _ (k : ℕ) (right : Rule) (size : ℕ) (out : Columns) (m m' m'' m''' : 
             ∙ written_else out m m' m'' j i x calm written c r (not_its_place k right out j i jk c r cl w);
         frame = frame_twice m m'' m''' (written_frame out m m' m'' j i x calm written) added.frame;
       }
-
--- ---- the same facts under other names for the width, the block size and the columns out
-
-module _ (k k' size size' : ℕ) (out out' : Missing) (ek : k' ≡ k) (es : size' ≡ size) (eo : out' ≡ out) where
-  pub added_as : (m m' : Meaning) (x : List ℕ) (i j : ℕ) → AddedAt size' m x (parities_of k' (published k') (is_out out') i j) m' → AddedAt size m x (parities_of k (published k) (is_out out) i j) m'
-  added_as m m' x i j h =
-      subst (λ n. AddedAt size m x (parities_of n (published n) (is_out out) i j) m') ek
-      (subst (λ n. AddedAt n m x (parities_of k' (published k') (is_out out) i j) m') es (subst (λ o. AddedAt size' m x (parities_of k' (published k') (is_out o) i j) m') eo h))

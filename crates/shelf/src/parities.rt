@@ -2,13 +2,13 @@
 ghost use Rattle.std.specs.Prelude.{◌≡◌, ◌+◌, ◌<◌, length};
 ghost use Rattle.code.specs.Code.{rows};
 ghost use Rattle.code.specs.Neighbours.{published};
-ghost use Rattle.shelf.specs.Missing.{is_out};
+ghost use Rattle.shelf.specs.Rosters.{out_of};
 ghost use Rattle.shelf.specs.Blocks.{Ready};
 ghost use Rattle.shelf.specs.Reading.{Answers, Heard};
 ghost use Rattle.shelf.specs.Parities.{AddedAt, only_at, line_by, line_places, places_in_service, parities_of};
 
 use crate::blocks::{fetch, place};
-use crate::roster::missing::Missing;
+use crate::roster::Roster;
 use crate::slots::add;
 use code::lines::is_taken;
 use code::places::Row;
@@ -66,42 +66,38 @@ fn add_to_lines<T: Tray>(
     }
 }
 
-// Adds a change of a place in this row to the row's sum, if that is in service.
-fn add_to_sum<T: Tray>(
-    tray: &mut T,
-    k: Width,
-    out: Missing,
-    row: Row,
-    block: &[u8],
-    scratch: &mut [u8],
-)
-    requires heard { Heard k.number (length block.now) (is_out out) (T.Tray.meaning tray.old) }
-    requires row { row.0 < rows k.number }
-    requires scratch { length scratch.old ≡ length block.now }
-    ensures { AddedAt (length block.now) (T.Tray.meaning tray.old) block.now (places_in_service (is_out out) (only_at k.number row.0)) (T.Tray.meaning tray.new) }
-{
-    if !out.is_out(k.number) {
-        add_at(tray, k.number, row.0, block, scratch);
+impl Roster {
+    // Adds a change of a place in this row to the row's sum, if that is in service.
+    fn add_to_sum<T: Tray>(&self, tray: &mut T, row: Row, block: &[u8], scratch: &mut [u8])
+        requires heard { Heard self.now.width (length block.now) (out_of self.now) (T.Tray.meaning tray.old) }
+        requires row { row.0 < rows self.now.width }
+        requires scratch { length scratch.old ≡ length block.now }
+        ensures { AddedAt (length block.now) (T.Tray.meaning tray.old) block.now (places_in_service (out_of self.now) (only_at self.now.width row.0)) (T.Tray.meaning tray.new) }
+    {
+        let k = self.width();
+        if !self.missing().is_out(k.number) {
+            add_at(tray, k.number, row.0, block, scratch);
+        }
     }
-}
 
-// Adds a change of the place in `column` to its parities that are in service.
-pub(crate) fn add_to_parities<T: Tray>(
-    tray: &mut T,
-    k: Width,
-    out: Missing,
-    row: Row,
-    column: u32,
-    block: &[u8],
-    scratch: &mut [u8],
-)
-    requires heard { Heard k.number (length block.now) (is_out out) (T.Tray.meaning tray.old) }
-    requires row { row.0 < rows k.number }
-    requires scratch { length scratch.old ≡ length block.now }
-    ensures { AddedAt (length block.now) (T.Tray.meaning tray.old) block.now (parities_of k.number (published k.number) (is_out out) row.0 column) (T.Tray.meaning tray.new) }
-{
-    add_to_sum(tray, k, out, row, block, scratch);
-    if !out.is_out(k.number + 1) {
-        add_to_lines(tray, k, row, column, block, scratch);
+    // Adds a change of the place in `column` to its parities that are in service.
+    pub(crate) fn add_to_parities<T: Tray>(
+        &self,
+        tray: &mut T,
+        row: Row,
+        column: u32,
+        block: &[u8],
+        scratch: &mut [u8],
+    )
+        requires heard { Heard self.now.width (length block.now) (out_of self.now) (T.Tray.meaning tray.old) }
+        requires row { row.0 < rows self.now.width }
+        requires scratch { length scratch.old ≡ length block.now }
+        ensures { AddedAt (length block.now) (T.Tray.meaning tray.old) block.now (parities_of self.now.width (published self.now.width) (out_of self.now) row.0 column) (T.Tray.meaning tray.new) }
+    {
+        let k = self.width();
+        self.add_to_sum(tray, row, block, scratch);
+        if !self.missing().is_out(k.number + 1) {
+            add_to_lines(tray, k, row, column, block, scratch);
+        }
     }
 }

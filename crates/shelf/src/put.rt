@@ -5,7 +5,6 @@ ghost use Rattle.code.specs.Neighbours.{published};
 ghost use Rattle.law.specs.Calls.{Put};
 ghost use Rattle.law.specs.Runs.{put as sent};
 ghost use Rattle.law.specs.Promises.{Spares, told};
-ghost use Rattle.shelf.specs.Missing.{is_out};
 ghost use Rattle.shelf.specs.Rosters.{out_of};
 ghost use Rattle.shelf.specs.Blocks.{Ready};
 ghost use Rattle.shelf.specs.Checks.{reaching};
@@ -13,26 +12,24 @@ ghost use Rattle.shelf.specs.Promises.{PutsOn, CarriesOn};
 ghost use Rattle.shelf.specs.Hands.{Reach};
 
 use crate::blocks::place;
-use crate::parities::add_to_parities;
 use crate::roster::Roster;
-use crate::roster::missing::Missing;
 use crate::scratch::Scratch;
 use crate::slots::add;
 use code::places::Row;
 use tray::fault::Fault;
 use tray::trays::Tray;
 
-// Writes a block to a column, unless the column is out.
-fn write_served<T: Tray>(tray: &mut T, out: Missing, column: u32, row: Row, block: &[u8])
-    requires { is_out out column ≡ false → Ready (T.Tray.meaning tray.old) column row.0 (length block.now) }
-    ensures { T.Tray.meaning tray.new ≡ (if is_out out column then T.Tray.meaning tray.old else stored (T.Tray.meaning tray.old) column row.0 block.now) }
-{
-    if !out.is_out(column) {
-        place(tray, column, row.0, block);
-    }
-}
-
 impl Roster {
+    // Writes a block to a column, unless the column is out.
+    fn write_served<T: Tray>(&self, tray: &mut T, column: u32, row: Row, block: &[u8])
+        requires { out_of self.now column ≡ false → Ready (T.Tray.meaning tray.old) column row.0 (length block.now) }
+        ensures { T.Tray.meaning tray.new ≡ (if out_of self.now column then T.Tray.meaning tray.old else stored (T.Tray.meaning tray.old) column row.0 block.now) }
+    {
+        if !self.missing().is_out(column) {
+            place(tray, column, row.0, block);
+        }
+    }
+
     // Puts a block in the place of the one at hand. What the two differ by, in `change`, is added to the parities.
     fn exchange<T: Tray>(
         &self,
@@ -47,13 +44,11 @@ impl Roster {
         requires change { length change.old ≡ length block.now }
         ensures { Put self.now.width (published self.now.width) (length block.now) (out_of self.now) (T.Tray.meaning tray.old) column row.0 block.now (T.Tray.meaning tray.new) }
     {
-        let k = self.width();
-        let out = self.missing();
         let size = block.len();
         self.hand(tray, column, row, work, change);
         add(change, 0, block);
-        write_served(tray, out, column, row, block);
-        add_to_parities(tray, k, out, row, column, change, &mut work[0..size]);
+        self.write_served(tray, column, row, block);
+        self.add_to_parities(tray, row, column, change, &mut work[0..size]);
     }
 
     // Puts a block into a row of a data column, also where the column is out of service: it is written if the column is in

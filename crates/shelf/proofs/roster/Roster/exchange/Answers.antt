@@ -1,11 +1,10 @@
-use Rattle.std.proofs.Common.{◌≡◌, cond, length, refl, ap, ◌∙◌, subst, arith}
-use Rattle.tray.specs.Meaning.{stored}
+use Rattle.std.proofs.Common.{◌≡◌, length, refl, subst, arith}
 use Rattle.code.specs.Neighbours.{published}
 use Rattle.law.specs.Hand.{AtHand}
-use Rattle.shelf.specs.Missing.{is_out}
 use Rattle.shelf.specs.Rosters.{out_of}
+use Rattle.shelf.specs.Parities.{AddedAt, parities_of}
 use Rattle.shelf.proofs.OneBlock.{one_slot}
-use Rattle.shelf.proofs.Exchanging.{exchanged, added_as}
+use Rattle.shelf.proofs.Exchanging.{exchanged}
 use Rattle.shelf.proofs.roster.Roster.exchange.Goals as goal
 
 pub returns : goal.returns
@@ -27,6 +26,4 @@ returns g c =
     exchanged k (published k) (length x) out m m' m'' m''' j i x v change c.requires.reach.column c.requires.reach.row refl
     (subst (λ n. AtHand k (published k) n out m i j v) as_long c.hand.ensures.at_hand) c.hand.ensures.calm
     (one_slot (length x) v x change c.add.ensures)
-    (c.write_served.ensures ∙ ap (λ t. cond (is_out t j) m' (stored m' j i x)) c.missing-out.ensures)
-    (added_as k c.width-k.result.number (length x) (length change) r.missing c.missing-out.result c.width-k.ensures.value long c.missing-out.ensures m'' m''' change i j
-    c.add_to_parities.ensures)
+    c.write_served.ensures (subst (λ n. AddedAt n m'' change (parities_of k (published k) out i j) m''') long c.add_to_parities.ensures)
