@@ -1,17 +1,18 @@
 -- What a flat tray means once it is made, and once a block is written.
-use Rattle.std.proofs.Common.{◌≡◌, ℕ, ◌+◌, ◌*◌, ◌<◌, ◌≤◌, true, false, cond, ◌&&◌, eqb, ltb, List, [], length, get_or, replicate, sym, refl, ap, ap₂, ⊎_elim, arith}
+use Rattle.std.proofs.Common.{rules, ◌≡◌, Bool, set, ℕ, ◌+◌, ◌*◌, ◌<◌, ◌≤◌, true, false, cond, ◌&&◌, eqb, ltb, List, [], length, get_or, replicate, sym, refl, ap, ap₂, ⊎_elim, arith}
 use mathlib.Core.Path.{fun_ext}
 use lib.Seq.{paste}
 use Rattle.std.proofs.lemmas.List.{get_or-replicate}
+use Rattle.std.proofs.lemmas.List.Edits.{length-paste}
 use Rattle.std.proofs.lemmas.Bool.{cases_eq, cases_lt, cases_Bool, eq-eqb, ne_eqb, lt-ltb, le-ltb}
 use Rattle.tray.specs.declared.trays.Shape.{Shape}
 use Rattle.tray.specs.declared.flat.Flat.{Flat}
 use Rattle.tray.specs.declared.flat.columns.Column.{Column}
-use Rattle.tray.specs.Meaning.{Meaning, empty, stored}
+use Rattle.tray.specs.Meaning.{Meaning, empty, tallied, stored, switched}
 use Rattle.tray.specs.Limits.{flat_columns, has_room}
-use Rattle.tray.specs.FlatTrays.{start_of, blocks_in, flat_meaning, flat_of, fresh, new_flat, written}
-use Rattle.tray.specs.FlatColumns.{absent}
-use Rattle.tray.specs.FlatOwes.{place_within, room_parts}
+use Rattle.tray.specs.FlatTrays.{start_of, blocks_in, fitted, flat_meaning, flat_of, fresh, new_flat, written}
+use Rattle.tray.specs.FlatColumns.{absent, counted, turned}
+use Rattle.tray.specs.FlatOwes.{place_within, room_parts, fitted_room}
 use Rattle.tray.proofs.Places.{places_apart, put_there, put_elsewhere}
 
 -- a memory with room, and a block put into it at column c and row r
@@ -34,17 +35,22 @@ module _ (columns rows size : ℕ) (cells : List ℕ) (room : columns * rows * s
       (λ n. simp (ne_eqb j c n) (away (λ p _. n p)))
       (cases_eq j c)
 
--- The same of a whole tray, which may have another memory.
+-- The same of a whole tray, which may have another memory of the same length.
 abbrev pub with_cells : Flat → List ℕ → Meaning
-with_cells t cells = flat_meaning t.shape.columns t.shape.rows t.shape.size t.table cells
+with_cells t cells =
+    let s = fitted t.shape (length cells) in
+    flat_meaning s.columns s.rows s.size t.table cells
 
-pub block_written : (t : Flat) (c r : ℕ) → c < t.shape.columns → r < t.shape.rows → (bytes : List ℕ) → length bytes ≡ t.shape.size → with_cells t (written (flat_of t) c r bytes t.cells.now) ≡ stored (flat_of t) c r bytes
+pub block_written : (t : Flat) (c r : ℕ) → c < (flat_of t).columns → r < (flat_of t).rows → (bytes : List ℕ) → length bytes ≡ (flat_of t).size → with_cells t (written (flat_of t) c r bytes t.cells.now) ≡ stored (flat_of t) c r bytes
 unfolding flat_of
 block_written t c r hc hr bytes e =
-    let s = t.shape in
-    let room = room_parts s.columns s.rows s.size (length t.cells.now) t.room in
+    let n = length t.cells.now in
+    let s = fitted t.shape n in
+    let room = room_parts s.columns s.rows s.size n (fitted_room t.shape n) in
     let with_blocks : (ℕ → ℕ → List ℕ) → Meaning = λ b. record { columns = s.columns; rows = s.rows; size = s.size; answers = (flat_of t).answers; block = b; tally = (flat_of t).tally } in
-    ap with_blocks (fun_ext (λ j. fun_ext (λ i. block_stored s.columns s.rows s.size t.cells.now room.3 c r bytes hc hr e j i)))
+    let at = start_of s.rows s.size c r in
+    let long = length-paste t.cells.now at bytes s.size (place_within s.columns s.rows s.size c r n hc hr room.3) (omega arith) in
+    rw long (ap with_blocks (fun_ext (λ j. fun_ext (λ i. block_stored s.columns s.rows s.size t.cells.now room.3 c r bytes hc hr e j i))))
 
 -- fresh records for all columns
 abbrev new_table : List Column
@@ -69,9 +75,17 @@ flat_empty cells =
     simp (none_below_zero, no_blocks)
 
 -- and of the shape that was asked for where that has room.
-pub flat_new : (asked made : Shape) (cells : List ℕ) → made ≡ cond (has_room asked.columns asked.rows asked.size (length cells)) asked (record { columns = 0; rows = 0; size = 0 }) → flat_meaning made.columns made.rows made.size new_table cells ≡ new_flat asked.columns asked.rows asked.size cells
-flat_new asked made cells e =
+pub flat_new : (s : Shape) (cells : List ℕ) → let made = fitted s (length cells) in flat_meaning made.columns made.rows made.size new_table cells ≡ new_flat s.columns s.rows s.size cells
+flat_new s cells =
     ⊎_elim
-    (λ (h : has_room asked.columns asked.rows asked.size (length cells) ≡ true). rw (e, h) (flat_fresh asked.columns asked.rows asked.size cells (room_parts asked.columns asked.rows asked.size (length cells) h).0))
-    (λ (h : has_room asked.columns asked.rows asked.size (length cells) ≡ false). rw (e, h) (flat_empty cells))
-    (cases_Bool (has_room asked.columns asked.rows asked.size (length cells)))
+    (λ (h : has_room s.columns s.rows s.size (length cells) ≡ true). rw h (flat_fresh s.columns s.rows s.size cells (room_parts s.columns s.rows s.size (length cells) h).0))
+    (λ (h : has_room s.columns s.rows s.size (length cells) ≡ false). rw h (flat_empty cells))
+    (cases_Bool (has_room s.columns s.rows s.size (length cells)))
+
+-- One more read of a column, and its flag set, in the record of the column: all else is as it was.
+module _ (columns rows size : ℕ) (table : List Column) (cells : List ℕ) (c : ℕ) (hc : c < columns) (ht : c < length table) where
+  pub flat_tallied : flat_meaning columns rows size (set table c (counted (get_or table c absent))) cells ≡ tallied (flat_meaning columns rows size table cells) c
+  flat_tallied = search rules
+
+  pub flat_switched : (on : Bool) → flat_meaning columns rows size (set table c (turned (get_or table c absent) on)) cells ≡ switched (flat_meaning columns rows size table cells) c on
+  flat_switched on = search rules

@@ -2,10 +2,11 @@
 -- a column, beside a table with one record for each column.
 use Rattle.std.specs.Prelude.{◌≡◌, ℕ, ◌+◌, ◌*◌, ◌%◌, ◌^◌, cond, ◌&&◌, List, [], length, take, drop, nat_lt, slice_index_or}
 use Rattle.std.proofs.Math.Seq.{paste}
+use Rattle.tray.specs.declared.trays.Shape.{Shape}
 use Rattle.tray.specs.declared.flat.Flat.{Flat}
 use Rattle.tray.specs.declared.flat.columns.Column.{Column}
 use Rattle.tray.specs.FlatColumns.{absent}
-use Rattle.tray.specs.Limits.{has_room}
+pub use Rattle.tray.specs.Limits.{has_room}
 use Rattle.tray.specs.Meaning.{Meaning, empty}
 
 -- Where in the memory the block of column c and row r starts.
@@ -16,7 +17,11 @@ start_of rows size c r = (c * rows + r) * size
 abbrev pub blocks_in : ℕ → ℕ → ℕ → List ℕ → ℕ → ℕ → List ℕ
 blocks_in columns rows size cells c r = cond (nat_lt c columns && nat_lt r rows) (take size (drop (start_of rows size c r) cells)) []
 
--- A flat tray by its shape, table and memory.
+-- The shape that counts: the one asked for where a memory of n bytes has room for it, and else the empty one.
+abbrev pub fitted : Shape → ℕ → Shape
+fitted s n = cond (has_room s.columns s.rows s.size n) s (record { columns = 0; rows = 0; size = 0 })
+
+-- A flat tray by the shape that counts, its table and memory.
 abbrev pub flat_meaning : ℕ → ℕ → ℕ → List Column → List ℕ → Meaning
 flat_meaning columns rows size table cells = record {
   columns = columns;
@@ -28,7 +33,9 @@ flat_meaning columns rows size table cells = record {
 }
 
 unfoldable pub flat_of : Flat → Meaning
-flat_of t = flat_meaning t.shape.columns t.shape.rows t.shape.size t.table t.cells.now
+flat_of t =
+    let s = fitted t.shape (length t.cells.now) in
+    flat_meaning s.columns s.rows s.size t.table t.cells.now
 
 -- A new flat tray that has room: all its columns answer, none was read, and the bytes of the memory
 -- are its blocks.

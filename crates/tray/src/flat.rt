@@ -1,6 +1,6 @@
 // The flat tray: blocks in a caller's memory, column after column and row after row within a column.
-ghost use Rattle.std.specs.Prelude.{◌≡◌, ◌+◌, ◌<◌, ◌≤◌, true, cond, length, OnOk};
-ghost use Rattle.tray.specs.Limits.{has_room};
+ghost use Rattle.std.specs.Prelude.{◌≡◌, ◌+◌, ◌<◌, ◌≤◌, length, OnOk};
+ghost use Rattle.tray.specs.FlatTrays.{fitted};
 ghost use Rattle.tray.specs.Meaning.{Ready, verdict, asked, tallied, stored, switched, if_ok};
 
 use crate::fault::Fault;
@@ -17,20 +17,20 @@ pub const MAX_ROWS: u32 = 1024;
 
 pub const MAX_SIZE: u32 = 512;
 
-// The shape, the record of each column, and the memory, which has room for all blocks of the shape.
+// The shape that was asked for, the record of each column, and the memory. The shape counts only within the limits and
+// where the memory has room for it; otherwise the tray is empty. (No ghost field says that there is room: beside a `&mut`
+// it would keep arrays of flat trays from being proved.)
 #[derive(Drop)]
 pub struct Flat<'a> {
     shape: Shape,
     table: [Column; MAX_COLUMNS as usize],
     cells: &'a mut [u8],
-    ghost room: { has_room shape.columns shape.rows shape.size (length cells.now) ≡ true },
 }
 
 impl Shape {
     // This shape where it is within the limits and `len` bytes have room for it, and else the empty one.
     fn fitting(self, len: usize) -> Shape
-        ensures value { result ≡ cond (has_room self.columns self.rows self.size len) self Shape.EMPTY }
-        ensures room { has_room result.columns result.rows result.size len ≡ true }
+        ensures { result ≡ fitted self len }
     {
         let fits = self.columns <= MAX_COLUMNS
             && self.rows <= MAX_ROWS
@@ -52,7 +52,7 @@ impl<'a> Flat<'a> {
         ensures lender { result.cells.ghost_name ≡ cells.entry.ghost_name }
     {
         Flat {
-            shape: shape.fitting(cells.len()),
+            shape,
             table: [Column::NEW; MAX_COLUMNS as usize],
             cells,
         }
@@ -63,7 +63,7 @@ impl<'a> Flat<'a> {
         ensures after { flat_of self.new ≡ new_flat shape.columns shape.rows shape.size self.old.cells.now }
         ensures cells { SameCells self.old self.new }
     {
-        self.shape = shape.fitting(self.cells.len());
+        self.shape = shape;
         self.table = [Column::NEW; MAX_COLUMNS as usize];
     }
 
@@ -73,7 +73,7 @@ impl<'a> Flat<'a> {
         ensures after { flat_of self.new ≡ if_ok result (switched (flat_of self.old) column on) (flat_of self.old) }
         ensures cells { SameCells self.old self.new }
     {
-        self.shape.check_column(column)?;
+        self.shape().check_column(column)?;
         self.table[column as usize].switch(on);
         Ok(())
     }
@@ -83,7 +83,7 @@ impl<'a> Flat<'a> {
         ensures value { result ≡ verdict (flat_of self.now) column row len }
         ensures ready { OnOk result (Ready (flat_of self.now) column row len) }
     {
-        self.shape.check_place(column, row, len)?;
+        self.shape().check_place(column, row, len)?;
         if !self.table[column as usize].answers() {
             return Err(Fault::silent(column));
         }
@@ -97,7 +97,8 @@ impl<'a> Flat<'a> {
         ensures value { result ≡ start_of (flat_of self.now).rows (flat_of self.now).size column row }
         ensures bound { result + (flat_of self.now).size ≤ length self.now.cells.now }
     {
-        (column as usize * self.shape.rows as usize + row as usize) * self.shape.size as usize
+        let shape = self.shape();
+        (column as usize * shape.rows as usize + row as usize) * shape.size as usize
     }
 
     // Fills a buffer with the block of a place.
@@ -137,16 +138,16 @@ impl<'a> Tray for Flat<'a> {
     ghost wraps = { flat_wraps };
 
     fn shape(&self) -> Shape {
-        self.shape
+        self.shape.fitting(self.cells.len())
     }
 
     fn answers(&self, column: u32) -> Result<bool, Fault> {
-        self.shape.check_column(column)?;
+        self.shape().check_column(column)?;
         Ok(self.table[column as usize].answers())
     }
 
     fn tally(&self, column: u32) -> Result<u32, Fault> {
-        self.shape.check_column(column)?;
+        self.shape().check_column(column)?;
         Ok(self.table[column as usize].tally())
     }
 

@@ -4,4 +4,4 @@ use Rattle.tray.proofs.flat.Flat.new.Goals as goal
 
 pub returns-clause-value : goal.returns-clause-value
 unfolding flat_of
-returns-clause-value c = flat_new c.args.shape _ c.args.cells.now c.fitting.ensures.value
+returns-clause-value c = flat_new c.args.shape c.args.cells.now

@@ -4,4 +4,4 @@ use Rattle.tray.proofs.flat.Flat.renew.Goals as goal
 
 pub returns-clause-after : goal.returns-clause-after
 unfolding flat_of
-returns-clause-after c = flat_new c.args.shape _ c.args.self.now.cells.now c.fitting-self.ensures.value
+returns-clause-after c = flat_new c.args.shape c.args.self.now.cells.now
