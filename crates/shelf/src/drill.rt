@@ -1,9 +1,10 @@
 // A drill: one column is out of service while it lasts, so that a class sees its blocks come back, and is in service
 // again at its end (in the field's words, a guard over a degraded read). Only gets are made inside: the guard has the
 // roster lent, so no other call on the shelf passes the check before the drill has ended.
-ghost use Rattle.std.specs.Prelude.{◌≡◌, length};
+ghost use Rattle.std.specs.Prelude.{◌≡◌, true, length};
 ghost use Rattle.tray.specs.Meaning.{if_ok};
 ghost use Rattle.law.specs.Promises.{Spares, told_inside};
+ghost use Rattle.shelf.specs.Missing.{keeps};
 ghost use Rattle.shelf.specs.Rosters.{taken_out};
 ghost use Rattle.shelf.specs.Checks.{pulling, reaching};
 ghost use Rattle.shelf.specs.Promises.{PullsOn, GetsOn, CarriesInsideOn};
@@ -57,10 +58,13 @@ impl Roster {
 }
 
 impl Drill<'_> {
-    // Whether the drill took its column out, or why it is idle.
+    // Whether the drill took its column out, or why it is idle. What every roster keeps is told too: a caller that holds the
+    // drill alone has no other call to learn it of the drill's roster.
     pub fn taken(&self) -> Result<(), Fault>
-        ensures { result ≡ self.now.taken }
+        ensures value { result ≡ self.now.taken }
+        ensures kept { keeps self.now.roster.now.width self.now.roster.now.size self.now.roster.now.missing ≡ true }
     {
+        let _size = self.roster.size();
         self.taken
     }
 
