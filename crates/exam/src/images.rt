@@ -2,9 +2,8 @@
 // kit have to be read with every later one.
 #[cfg(test)]
 mod tests {
-    use crate::rounds::tests::{Rig, SHAPE_3, SHAPE_5};
+    use crate::rounds::tests::{Rig, SHAPE_3, SHAPE_5, same};
     use shelf::roster::Roster;
-    use std::process::Abort;
     use std::test::Fail;
     use tray::fault::Fault;
     use tray::flat::Flat;
@@ -47,13 +46,7 @@ mod tests {
     }
 
     // Reads every data block back with one column out, and rebuilds it.
-    fn read<T: Tray>(
-        rt: &impl Abort,
-        roster: Roster,
-        tray: &mut T,
-        k: u32,
-        work: &mut [u8],
-    ) -> Result<(), Fault> {
+    fn read<T: Tray>(roster: Roster, tray: &mut T, k: u32, work: &mut [u8]) -> Result<(), Fail> {
         let mut rig = Rig {
             roster,
             tray,
@@ -61,36 +54,34 @@ mod tests {
             work,
         };
         rig.pull(0)?;
-        rig.holds(rt, |row| if row % 2 == 0 { 2 } else { 1 })?;
+        rig.holds(|row| if row % 2 == 0 { 2 } else { 1 })?;
         rig.rebuild(0)?;
-        assert_eq!(rt; rig.sweep()?, None);
-        Ok(())
+        same("sweep", rig.sweep()?, None)
     }
 
     // What is written comes to these bytes, and is read back from them.
     fn is_written_and_read<const LEN: usize>(
-        rt: &impl Abort,
         shape: Shape,
         k: u32,
         image: [u8; LEN],
         work: &mut [u8],
-    ) -> Result<(), Fault> {
+    ) -> Result<(), Fail> {
         let mut memory = [0u8; LEN];
         let roster = write(&mut Flat::new(shape, &mut memory), k, work)?;
-        assert_eq!(rt; memory, image);
+        for (at, (seen, wanted)) in memory.iter().zip(&image).enumerate() {
+            same(format_args!("byte {at}"), seen, wanted)?;
+        }
         let mut stored = image;
-        read(rt, roster, &mut Flat::new(shape, &mut stored), k, work)
+        read(roster, &mut Flat::new(shape, &mut stored), k, work)
     }
 
     #[test]
-    fn a_shelf_of_width_3_is_written_and_read(rt: HostRuntime) -> Result<(), Fail> {
-        is_written_and_read(&rt, SHAPE_3, 3, WIDTH_3, &mut [0; 16])?;
-        Ok(())
+    fn a_shelf_of_width_3_is_written_and_read() -> Result<(), Fail> {
+        is_written_and_read(SHAPE_3, 3, WIDTH_3, &mut [0; 16])
     }
 
     #[test]
-    fn a_shelf_of_width_5_is_written_and_read(rt: HostRuntime) -> Result<(), Fail> {
-        is_written_and_read(&rt, SHAPE_5, 5, WIDTH_5, &mut [0; 64])?;
-        Ok(())
+    fn a_shelf_of_width_5_is_written_and_read() -> Result<(), Fail> {
+        is_written_and_read(SHAPE_5, 5, WIDTH_5, &mut [0; 64])
     }
 }

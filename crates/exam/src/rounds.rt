@@ -3,7 +3,8 @@
 pub mod tests {
     use code::widths::rows_of;
     use shelf::roster::Roster;
-    use std::process::Abort;
+    use std::fmt::{Debug, Display};
+    use std::test::Fail;
     use tray::fault::Fault;
     use tray::trays::{Shape, Tray};
 
@@ -27,6 +28,19 @@ pub mod tests {
             (place & 0xff) as u8,
             (place.wrapping_mul(7).wrapping_add(round) & 0xff) as u8,
         ]
+    }
+
+    // Fails unless a test sees what it wants, and tells what it looked at and both values.
+    pub fn same<T: PartialEq + Debug + Drop>(
+        what: impl Display + Drop,
+        seen: T,
+        wanted: T,
+    ) -> Result<(), Fail> {
+        if seen == wanted {
+            Ok(())
+        } else {
+            Err(Fail::new(format_args!("{what}: {seen:?} and not {wanted:?}")))
+        }
     }
 
     // A shelf under test: a roster of width `k`, with the tray and the work space that its calls are lent.
@@ -84,17 +98,17 @@ pub mod tests {
         }
 
         // Every data block is read back as the mark of the round that `round` gives for its row.
-        pub fn holds<F: Fn(u32) -> u32>(&mut self, rt: &impl Abort, round: F) -> Result<(), Fault>
+        pub fn holds<F: Fn(u32) -> u32>(&mut self, round: F) -> Result<(), Fail>
             requires { F.IsAlwaysCallable round }
         {
             for column in 0..self.k {
                 for row in 0..rows_of(self.k) {
                     let block = self.block_at(column, row)?;
-                    assert_eq!(rt;
+                    same(
+                        format_args!("at ({column}, {row})"),
                         block,
                         mark(round(row), column, row),
-                        "at ({column}, {row})"
-                    );
+                    )?;
                 }
             }
             Ok(())
