@@ -44,6 +44,18 @@ both {a} {b} {c} {x = x} {y = y} p q =
       same = q.same ∙ p.same;
     }
 
+-- an equal text, and a bound that is no lower
+pub written_as : {a b : Line} {m n : ℕ} {x y : List ℕ} → x ≡ y → m ≤ n → Pushes a m x b → Pushes a n y b
+written_as {a} e more p =
+    record {
+      len = p.len ∙ ap (λ t. a.len + length t) e;
+      short = omega (arith, ap length e, p.short);
+      front = p.front ∙ ap (λ t. take a.len a.buffer.now ++ t) e;
+      rest = p.rest;
+      long = p.long;
+      same = p.same;
+    }
+
 -- a text that was added to an empty line
 pub whole : {a b : Line} {n : ℕ} {x : List ℕ} → a.len ≡ 0 → Pushes a n x b → (b.len ≡ length x) × (b.buffer.now ≡ onto x a.buffer.now)
 whole {a} {b} {x = x} empty p =

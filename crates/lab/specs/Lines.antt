@@ -1,7 +1,6 @@
 -- The lines that commands print.
-use Rattle.std.specs.Prelude.{ℕ, cond, List, [], ◌∷◌, ◌++◌, length, drop, Some, None, Ok, Err, codes, Option, Result}
+use Rattle.std.specs.Prelude.{ℕ, ◌+◌, ◌/◌, ◌%◌, cond, List, [], ◌∷◌, ◌++◌, length, drop, Some, None, Ok, Err, codes, Option, Result, nat_lt}
 pub use Rattle.std.specs.Fmt.{decimal}
-use Rattle.hex.specs.Hex.{encode_lower}
 use Rattle.tray.specs.declared.fault.Layer.{Layer}
 use Rattle.tray.specs.declared.fault.Layer.TheVariants as layer
 use Rattle.tray.specs.declared.fault.Fault.{Fault}
@@ -11,6 +10,15 @@ use Rattle.lab.specs.declared.answer.Answer.{Answer}
 use Rattle.lab.specs.declared.answer.Answer.TheVariants.{Done, Block, Count, Found}
 
 -- ---- bytes, numbers and names as text
+
+-- a digit of a byte in hexadecimal, in lowercase
+abbrev pub hex_digit : ℕ → ℕ
+hex_digit n = cond (nat_lt n 10) (48 + n) (87 + n)
+
+-- two digits for each byte
+abbrev pub hex : List ℕ → List ℕ
+hex [] = []
+hex (b ∷ bytes) = hex_digit (b / 16) ∷ (hex_digit (b % 16) ∷ hex bytes)
 
 -- `-` for an absent number
 abbrev pub number_or : Option ℕ → List ℕ
@@ -42,7 +50,7 @@ shown_block (Found place) = []
 -- what an accepted command tells
 abbrev pub answer_text : Answer → List ℕ
 answer_text Done = codes "ok"
-answer_text (Block block) = encode_lower block.now
+answer_text (Block block) = hex block.now
 answer_text (Count n) = decimal n
 answer_text (Found None) = codes "clean"
 answer_text (Found (Some place)) = decimal place.0 ++ (codes " " ++ decimal place.1)

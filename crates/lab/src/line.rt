@@ -1,7 +1,6 @@
 // The line that tells of a command: its letter, a space, and what was answered or why it was refused.
-ghost use Rattle.std.specs.Prelude.{◌≡◌, ◌*◌, ◌≤◌, length, IfOk};
-ghost use Rattle.hex.specs.Hex.{encode_lower};
-ghost use Rattle.lab.specs.Lines.{decimal, number_or, layer_text, place_text, fault_text, shown_block, answer_text, told_text, line_text, onto};
+ghost use Rattle.std.specs.Prelude.{◌≡◌, ◌*◌, ◌<◌, ◌≤◌, length, IfOk};
+ghost use Rattle.lab.specs.Lines.{hex, hex_digit, decimal, number_or, layer_text, place_text, fault_text, shown_block, answer_text, told_text, line_text, onto};
 ghost use Rattle.lab.specs.Pushes.{HasRoom, Pushes};
 
 use crate::answer::Answer;
@@ -9,6 +8,14 @@ use crate::run::LEAST_LINE;
 use script::reader::is_letter;
 use shelf::roster::MOST_SIZE;
 use tray::fault::{Fault, Layer};
+
+// A digit of a byte in hexadecimal.
+fn hex_digit(n: u8) -> u8
+    requires { n < 16 }
+    ensures { result ≡ hex_digit n }
+{
+    if n < 10 { b'0' + n } else { b'a' + (n - 10) }
+}
 
 // A line being written. Its text so far stands at the front of the caller's buffer. (`write!` may fail for all that its
 // clauses say, also where there is room, and a line may not.)
@@ -28,12 +35,24 @@ impl Line<'_> {
         self.len = end;
     }
 
+    // The digits of a number: those before the last one, and the last one.
+    fn push_digits(&mut self, n: u32)
+        requires { HasRoom self.old (length (decimal n)) }
+        ensures { Pushes self.old (length (decimal n)) (decimal n) self.new }
+    {
+        if n < 10 {
+            return self.push(&[b'0' + n as u8]);
+        }
+        self.push_digits(n / 10);
+        self.push(&[b'0' + (n % 10) as u8]);
+    }
+
+    // A u32 has ten digits at most.
     fn push_number(&mut self, n: u32)
         requires { HasRoom self.old 10 }
         ensures { Pushes self.old 10 (decimal n) self.new }
     {
-        let mut digits = itoa::Buffer::new();
-        self.push(digits.format(n).as_bytes());
+        self.push_digits(n);
     }
 
     // A number, or `-` for an absent one.
@@ -50,11 +69,11 @@ impl Line<'_> {
     // Two digits for each byte of a block.
     fn push_hex(&mut self, block: &[u8])
         requires { HasRoom self.old (2 * length block.now) }
-        ensures { Pushes self.old (2 * length block.now) (encode_lower block.now) self.new }
+        ensures { Pushes self.old (2 * length block.now) (hex block.now) self.new }
     {
-        let end = self.len + 2 * block.len();
-        hex::encode_to_slice(block, &mut self.buffer[self.len..end]).unwrap();
-        self.len = end;
+        for byte in block {
+            self.push(&[hex_digit(*byte / 16), hex_digit(*byte % 16)]);
+        }
     }
 
     // A column and a row, either of which may be absent.
