@@ -1,14 +1,9 @@
 -- The listed places of a line are those that it sums, and the listed lines of a place those that hold it.
-use Rattle.std.proofs.Common.{◌≡◌, ℕ, zero, suc, ◌+◌, ◌≤◌, min, ◌<◌, Bool, true, false, cond, ◌&&◌, ◌||◌, eqb, List, [], ◌∷◌, ◌++◌, map, sym, refl, ap, ◌∙◌, ap₂, true≢false, map-id, add-one, arith, eqb-true}
+use Rattle.std.proofs.Common.{◌≡◌, ℕ, zero, suc, ◌+◌, ◌<◌, Bool, true, false, cond, ◌&&◌, ◌||◌, eqb, List, [], ◌∷◌, ◌++◌, map, sym, refl, ap, ◌∙◌, ap₂, true≢false, append_assoc, append-nil, add-one, arith, eqb-true}
 use lib.Bits.{bit_xor, xor_assoc, xor_zero_r}
 use borrow.Author.Tests.{eq-true, ne_false, eqb-false}
-use Rattle.std.specs.List.{filter, range_with_len}
-use native.Mathlib.Decide.{dec_lt}
 use Rattle.std.proofs.Math.Bool.{or_assoc}
-use Rattle.std.proofs.Math.Nat.{min-eq_left, min-eq_right}
-use Rattle.std.proofs.lemmas.List.{map-append}
-use Rattle.std.proofs.lemmas.List.Elements.{filter-append}
-use Rattle.std.proofs.lemmas.List.FromFn.{map-range_with_len_more}
+use Rattle.std.proofs.lemmas.List.{map-append, map_push}
 use Rattle.code.specs.Numbers.{only, xorsum, any, those}
 use Rattle.code.specs.Code.{Blocks, Rule, dark, meets, beside, gives, butterfly}
 use Rattle.code.specs.Neighbours.{Tournament}
@@ -16,46 +11,25 @@ use Rattle.code.specs.Lines.{takes, holds, among, lines_of, in_row, places_below
 use Rattle.code.proofs.Xor.{sum_same, sum_xor, sum_one, only_false}
 use Rattle.code.proofs.Rows.{back}
 
--- ---- what a chain over the numbers below n lists
+-- ---- one number more
 
-range_more : (n : ℕ) → range_with_len 0 (suc n) ≡ range_with_len 0 n ++ n ∷ []
-range_more n =
-    ap (range_with_len 0) (sym (add-one n)) ∙ sym (map-id (range_with_len 0 (n + 1))) ∙ map-range_with_len_more (λ x. x) 0 n n (omega arith)
-    ∙ ap (λ xs. xs ++ n ∷ []) (map-id (range_with_len 0 n))
-
-pub those_listed : (n : ℕ) (f : ℕ → Bool) → filter f (range_with_len 0 n) ≡ those n f
+those_more : (n : ℕ) (f : ℕ → Bool) → f n ≡ true → those (n + 1) f ≡ those n f ++ n ∷ []
 unfolding those
-those_listed zero f = refl
-those_listed (suc n) f =
-    ap (filter f) (range_more n) ∙ filter-append f (range_with_len 0 n) (n ∷ []) ∙ ap₂ (λ xs ys. xs ++ ys) (those_listed n f) refl
+those_more n f e = ap (λ m. those m f) (add-one n) ∙ ap (λ b. those n f ++ cond b (n ∷ []) []) e
 
-map_those : {A : Type 0} (n : ℕ) (f : ℕ → Bool) (g h : ℕ → A) → ((t : ℕ) → t < n → g t ≡ h t) → map g (those n f) ≡ map h (those n f)
+those_less : (n : ℕ) (f : ℕ → Bool) → f n ≡ false → those (n + 1) f ≡ those n f
 unfolding those
-map_those zero f g h same = refl
-map_those (suc n) f g h same =
-    map-append g (those n f) (cond (f n) (n ∷ []) [])
-    ∙ ap₂ (λ xs ys. xs ++ ys) (map_those n f g h (λ t l. same t (omega arith))) (last (f n))
-    ∙ sym (map-append h (those n f) (cond (f n) (n ∷ []) []))
-  where
-    last : (b : Bool) → map g (cond b (n ∷ []) []) ≡ map h (cond b (n ∷ []) [])
-    last true = ap (λ x. x ∷ []) (same n (omega arith))
-    last false = refl
+those_less n f e = ap (λ m. those m f) (add-one n) ∙ ap (λ b. those n f ++ cond b (n ∷ []) []) e ∙ append-nil (those n f)
 
--- beyond 32, a line crosses all columns alike
-pub clamped : (n j r : ℕ) → (j ≤ 32 → r ≡ meets n j) → (32 < j → r ≡ meets n 32) → r ≡ meets n (min j 32)
-clamped n j r within beyond =
-    elim (dec_lt 32 j) [
-      | yes l ↦ beyond l ∙ ap (meets n) (sym (min-eq_right (omega arith)))
-      | no m ↦ within (omega arith) ∙ ap (meets n) (sym (min-eq_left (omega arith)))
-    ]
+-- a loop that lists what passes: it takes one more, or passes over it
+module _ {A : Type 0} (g : ℕ → A) (f : ℕ → Bool) (n : ℕ) (start now : List A) (listed : now ≡ start ++ map g (those n f)) where
+  pub list_more : (next : List A) → f n ≡ true → next ≡ now ++ g n ∷ [] → next ≡ start ++ map g (those (n + 1) f)
+  list_more next e p =
+      p ∙ ap (λ xs. xs ++ g n ∷ []) listed ∙ append_assoc start (map g (those n f)) (g n ∷ [])
+      ∙ ap (λ xs. start ++ xs) (sym (ap (map g) (those_more n f e) ∙ map_push g (those n f) n))
 
--- the lines through the places of row i where the block of column j is taken
-pub lines_listed : (k : ℕ) (right : Rule) (i j : ℕ) → k ≤ 32
-    → map (λ t. meets i (min t 32)) (filter (λ t. takes right i t j) (range_with_len 0 k)) ≡ lines_of k right i j
-unfolding lines_of
-lines_listed k right i j l =
-    ap (map (λ t. meets i (min t 32))) (those_listed k (λ t. takes right i t j))
-    ∙ map_those k (λ t. takes right i t j) (λ t. meets i (min t 32)) (meets i) (λ t m. ap (meets i) (min-eq_left (omega arith)))
+  pub list_less : (next : List A) → f n ≡ false → next ≡ now → next ≡ start ++ map g (those (n + 1) f)
+  list_less next e p = p ∙ listed ∙ ap (λ xs. start ++ map g xs) (sym (those_less n f e))
 
 pub places_next : (k : ℕ) (right : Rule) (n t : ℕ)
     → places_below k right n (t + 1) ≡ places_below k right n t ++ in_row (meets n t) (those k (takes right (meets n t) t))

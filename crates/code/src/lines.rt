@@ -42,14 +42,14 @@ pub fn places_of(heap: Global, k: u32, line: Line) -> Result<Vec<(u32, u32)>, Al
         return Ok(Vec::new(heap));
     }
     let mut places = Vec::new(heap);
-    // no `flat_map`: the proof does not see what its closure makes of the chain inside
+    // no chains, here and in `lines_of`: through `filter` they take a third to a half more instructions
     for through in 0..k {
         let row = line.meeting(through);
-        places.extend(
-            (0..k)
-                .filter(|&column| is_taken(k, row, through, column))
-                .map(|column| (row.0, column)),
-        )?;
+        for column in 0..k {
+            if is_taken(k, row, through, column) {
+                places.push((row.0, column))?;
+            }
+        }
     }
     Ok(places)
 }
@@ -62,10 +62,13 @@ pub fn lines_of(heap: Global, k: u32, row: Row, column: u32) -> Result<Vec<Line>
     if !is_place(k, row, column) {
         return Ok(Vec::new(heap));
     }
-    (0..k)
-        .filter(|&through| is_taken(k, row, through, column))
-        .map(|through| row.line(through))
-        .collect(heap)
+    let mut lines = Vec::new(heap);
+    for through in 0..k {
+        if is_taken(k, row, through, column) {
+            lines.push(row.line(through))?;
+        }
+    }
+    Ok(lines)
 }
 
 // Facts of the code against tables written by hand.
