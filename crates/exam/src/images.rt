@@ -35,7 +35,12 @@ mod tests {
 
     // Puts to every place, loses a data column and the horizontal one, puts to the even rows again, and rebuilds both.
     fn write<T: Tray>(tray: &mut T, k: u32, work: &mut [u8]) -> Result<Roster, Fault> {
-        let mut rig = Rig::layout(tray, k, 2, work)?;
+        let mut rig = Rig {
+            roster: Roster::layout(tray, k, 2)?,
+            tray,
+            k,
+            work,
+        };
         rig.fill(1, |_| true)?;
         rig.pull(1)?;
         rig.pull(k)?;

@@ -1,7 +1,6 @@
 // The limits of a shelf, and what stands in its parities.
 #[cfg(test)]
 mod tests {
-    use crate::rounds::tests::Rig;
     use shelf::roster::Roster;
     use std::test::Fail;
     use tray::fault::{Fault, Refusal};
@@ -59,14 +58,14 @@ mod tests {
     const PARITIES: [[u8; 4]; 2] = [[0x12, 0x27, 0x4d, 0x99], [0x33, 0x1a, 0xa0, 0x5b]];
 
     // Puts the worked stripe on a fresh shelf.
-    fn put_stripe<'a, T: Tray>(tray: &'a mut T, work: &'a mut [u8]) -> Result<Rig<'a, T>, Fault> {
-        let mut rig = Rig::layout(tray, 3, 1, work)?;
+    fn put_stripe<T: Tray>(tray: &mut T, work: &mut [u8]) -> Result<Roster, Fault> {
+        let roster = Roster::layout(tray, 3, 1)?;
         for (column, blocks) in (0u32..).zip(DATA) {
             for (row, block) in (0u32..).zip(blocks) {
-                rig.put(column, row, &[block])?;
+                roster.put(tray, column, row, &[block], work)?;
             }
         }
-        Ok(rig)
+        Ok(roster)
     }
 
     #[test]
@@ -74,10 +73,10 @@ mod tests {
         let mut memory = [0u8; 20];
         let mut work = [0u8; 8];
         let mut tray = Flat::new(Shape::new(5, 4, 1), &mut memory);
-        let rig = put_stripe(&mut tray, &mut work)?;
+        put_stripe(&mut tray, &mut work)?;
         for (column, blocks) in (3u32..).zip(PARITIES) {
             for (row, block) in (0u32..).zip(blocks) {
-                assert_eq!(rt; byte_at(rig.tray, column, row)?, block);
+                assert_eq!(rt; byte_at(&mut tray, column, row)?, block);
             }
         }
         Ok(())
@@ -89,7 +88,7 @@ mod tests {
         let mut memory = [0u8; 20];
         let mut work = [0u8; 8];
         let mut tray = Flat::new(Shape::new(5, 4, 1), &mut memory);
-        let mut rig = put_stripe(&mut tray, &mut work)?;
+        let roster = put_stripe(&mut tray, &mut work)?;
         let cases = [
             (4, 2, (4, 2)),
             (4, 1, (4, 1)),
@@ -97,8 +96,12 @@ mod tests {
             (0, 2, (3, 2)),
         ];
         for (column, row, found) in cases {
-            rig.tray.write(column, row, &[0xff])?;
-            assert_eq!(rt; rig.sweep()?, Some(found), "after ({column}, {row})");
+            tray.write(column, row, &[0xff])?;
+            assert_eq!(rt;
+                roster.sweep(&mut tray, &mut work)?,
+                Some(found),
+                "after ({column}, {row})"
+            );
         }
         Ok(())
     }

@@ -4,6 +4,7 @@ mod tests {
     use crate::rounds::tests::{Rig, SHAPE_3, SHAPE_5, same};
     use cabinet::cabinets::Cabinet;
     use code::widths::rows_of;
+    use shelf::roster::Roster;
     use std::test::Fail;
     use tray::flat::Flat;
     use tray::split::Split;
@@ -17,7 +18,12 @@ mod tests {
         b: u32,
         work: &mut [u8],
     ) -> Result<(), Fail> {
-        let mut rig = Rig::layout(tray, k, 2, work)?;
+        let mut rig = Rig {
+            roster: Roster::layout(tray, k, 2)?,
+            tray,
+            k,
+            work,
+        };
         rig.fill(1, |_| true)?;
         rig.pull(a)?;
         rig.pull(b)?;

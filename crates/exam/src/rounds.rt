@@ -43,7 +43,8 @@ pub mod tests {
         }
     }
 
-    // A shelf under test: a roster of width `k`, with the tray and the work space that its calls are lent.
+    // A shelf under test: a roster of width `k`, with the tray and the work space that its calls are lent. It is made where
+    // it is used: in a `Result` or an `Option` a struct of a roster and a `&mut` has no rule in the proof yet.
     #[derive(Drop)]
     pub struct Rig<'a, T> {
         pub roster: Roster,
@@ -52,28 +53,9 @@ pub mod tests {
         pub work: &'a mut [u8],
     }
 
-    impl<'a, T: Tray> Rig<'a, T> {
-        // A shelf that is freshly laid out, with blocks of `size` bytes.
-        pub fn layout(
-            tray: &'a mut T,
-            k: u32,
-            size: u32,
-            work: &'a mut [u8],
-        ) -> Result<Rig<'a, T>, Fault> {
-            let roster = Roster::layout(tray, k, size)?;
-            Ok(Rig {
-                roster,
-                tray,
-                k,
-                work,
-            })
-        }
-
-        // The work space is lent before the roster, here and in the other calls that only look at the roster: a later loan
-        // of it has no rule in the proof yet.
+    impl<T: Tray> Rig<'_, T> {
         pub fn put(&mut self, column: u32, row: u32, block: &[u8]) -> Result<(), Fault> {
-            let work = &mut *self.work;
-            self.roster.put(self.tray, column, row, block, work)
+            self.roster.put(self.tray, column, row, block, self.work)
         }
 
         // Puts the marks of a round to every data column, in the rows that `rows` takes.
@@ -92,8 +74,8 @@ pub mod tests {
 
         fn block_at(&mut self, column: u32, row: u32) -> Result<[u8; 2], Fault> {
             let mut block = [0u8; 2];
-            let work = &mut *self.work;
-            self.roster.get(self.tray, column, row, &mut block, work)?;
+            self.roster
+                .get(self.tray, column, row, &mut block, self.work)?;
             Ok(block)
         }
 
@@ -123,8 +105,7 @@ pub mod tests {
         }
 
         pub fn sweep(&mut self) -> Result<Option<(u32, u32)>, Fault> {
-            let work = &mut *self.work;
-            self.roster.sweep(self.tray, work)
+            self.roster.sweep(self.tray, self.work)
         }
     }
 }

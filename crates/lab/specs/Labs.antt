@@ -4,7 +4,7 @@ use Rattle.tray.specs.declared.flat.Flat.{Flat}
 use Rattle.tray.specs.Meaning.{Meaning}
 use Rattle.tray.specs.FlatTrays.{flat_of}
 use Rattle.shelf.specs.declared.roster.Roster.{Roster}
-use Rattle.shelf.specs.Rosters.{Rostered}
+use Rattle.shelf.specs.Rosters.{Rostered, roster_of}
 use Rattle.lab.specs.declared.shelf_lab.Lab.{Lab}
 
 -- a shelf: a roster, and the tray that it was laid out on
@@ -13,7 +13,7 @@ pub record Held : Type 0 where
   pub tray : Meaning
 
 abbrev pub held : Roster → Flat → Held
-held roster tray = record { roster = roster; tray = flat_of tray }
+held roster tray = record { roster = roster_of roster; tray = flat_of tray }
 
 -- a memory on which no shelf is laid out yet, or a shelf
 pub data Standing : Type 0 where

@@ -1,6 +1,7 @@
 // What a lab does with a command.
 ghost use Rattle.std.specs.Prelude.{◌≡◌, ◌≤◌, length, IfOk};
 ghost use Rattle.script.specs.Commands.{operation_of};
+ghost use Rattle.shelf.specs.Rosters.{roster_of};
 ghost use Rattle.lab.specs.Labs.{held};
 ghost use Rattle.lab.specs.Lines.{shown_block};
 ghost use Rattle.lab.specs.Obeying.{Obeyed};
@@ -21,9 +22,9 @@ pub(crate) fn obey<'b>(
     block: &'b mut [u8],
     work: &mut [u8],
 ) -> Result<Answer<'b>, Fault>
-    requires { length block.old ≡ roster.old.size }
+    requires { length block.old ≡ (roster_of roster.old).size }
     ensures done { Obeyed sheet.now (held roster.old tray.old) (operation_of command.entry) work.old result work.new (held roster.new tray.new) }
-    ensures short { IfOk result (λ answer. length (shown_block answer) ≤ roster.old.size) }
+    ensures short { IfOk result (λ answer. length (shown_block answer) ≤ (roster_of roster.old).size) }
 {
     match command {
         Command::Layout(_) => Err(Fault::script(Refusal::OutOfOrder)),

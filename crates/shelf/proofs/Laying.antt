@@ -9,10 +9,11 @@ use Rattle.code.specs.Widths.{is_width}
 use Rattle.code.specs.Code.{rows}
 use Rattle.law.specs.Calls.{Laid}
 use Rattle.law.specs.Runs.{Run}
+use Rattle.shelf.specs.declared.roster.Roster.{Roster}
 use Rattle.shelf.specs.Missing.{is_out, is_size}
-use Rattle.shelf.specs.Rosters.{Rostered, full_roster}
+use Rattle.shelf.specs.Rosters.{Rostered, roster_of, full_roster}
 use Rattle.shelf.specs.Checks.{laying}
-use Rattle.shelf.specs.Layouts.{given, laying_out, zeroed, Begins}
+use Rattle.shelf.specs.Layouts.{made_of, given, laying_out, zeroed, Begins}
 use Rattle.shelf.proofs.Checked.{laid_sound}
 
 -- what an accepted answer within the limits says
@@ -41,10 +42,10 @@ module _ (k b : ℕ) (m m' : Meaning) where
             ∙ ap₂ (λ s t. cond (s && t) (replicate b 0) (m.block c r)) (sym (lt-true c (k + 2) cl)) (sym (lt-true r (rows k) rl));
       }
 
-  pub layout_begins : (sized : Sized m') (answer : Result Rostered Fault) → answer ≡ laying_out k b m → m' ≡ if_ok answer (zeroed k b m) m → Begins answer m' sized
+  pub layout_begins : (sized : Sized m') (answer : Result Roster Fault) → made_of answer ≡ laying_out k b m → m' ≡ if_ok answer (zeroed k b m) m → Begins answer m' sized
   layout_begins sized (Ok r) e f =
-      let same = (laid_out k b m r e).1 in
+      let same = (laid_out k b m (roster_of r) e).1 in
       Run.begins m
-      (subst (λ x. Laid x.width x.size m m') (sym same) (laid (laid_out k b m r e).0 f))
+      (subst (λ x. Laid x.width x.size m m') (sym same) (laid (laid_out k b m (roster_of r) e).0 f))
       (λ c. ap (λ x. is_out x.missing c) same)
   layout_begins sized (Err u) e f = tt

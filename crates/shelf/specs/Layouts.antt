@@ -8,10 +8,16 @@ use Rattle.code.specs.Widths.{is_width}
 use Rattle.code.specs.Code.{rows}
 use Rattle.code.specs.Neighbours.{published}
 use Rattle.law.specs.Runs.{between, Run}
+use Rattle.shelf.specs.declared.roster.Roster.{Roster}
 use Rattle.shelf.specs.Missing.{is_size}
-use Rattle.shelf.specs.Rosters.{Rostered, full_roster, shelf_on}
+use Rattle.shelf.specs.Rosters.{Rostered, roster_of, full_roster, shelf_on}
 use Rattle.shelf.specs.Checks.{laying}
 use Rattle.shelf.specs.Wiped.{wiped}
+
+-- an answered roster, by its parts
+abbrev pub made_of : Result Roster Fault → Result Rostered Fault
+made_of (Ok r) = Ok (roster_of r)
+made_of (Err f) = Err f
 
 -- x, unless there is a refusal
 abbrev pub given : {X : Type 0} → Result (Unit {0}) Fault → X → Result X Fault
@@ -35,5 +41,5 @@ abbrev pub zeroed : ℕ → ℕ → Meaning → Meaning
 zeroed width size m = wiped m (width + 2) (rows width) (replicate size 0)
 
 -- an accepted layout begins a run: the shelf stands at its end, with no call made yet
-abbrev pub Begins : Result Rostered Fault → (m : Meaning) → Sized m → Type 0
-Begins answer m sized = IfOk answer (λ r. Run r.width (published r.width) r.size [] between (shelf_on r m sized))
+abbrev pub Begins : Result Roster Fault → (m : Meaning) → Sized m → Type 0
+Begins answer m sized = IfOk (made_of answer) (λ r. Run r.width (published r.width) r.size [] between (shelf_on r m sized))

@@ -3,6 +3,7 @@ use Rattle.std.specs.Prelude.{ℕ}
 use Rattle.tray.specs.Meaning.{Meaning, Sized}
 use Rattle.law.specs.Service.{Columns}
 use Rattle.law.specs.Runs.{Shelf}
+use Rattle.shelf.specs.declared.roster.Roster.{Roster}
 use Rattle.shelf.specs.declared.roster.missing.Missing.{Missing}
 use Rattle.shelf.specs.declared.roster.missing.Missing.TheVariants.{Nothing}
 use Rattle.shelf.specs.Missing.{is_out, added, removed}
@@ -12,6 +13,9 @@ pub record Rostered : Type 0 where
   pub width : ℕ
   pub size : ℕ
   pub missing : Missing
+
+abbrev pub roster_of : Roster → Rostered
+roster_of r = record { width = r.width.number; size = r.size; missing = r.missing }
 
 -- a new roster: no column is out
 abbrev pub full_roster : ℕ → ℕ → Rostered

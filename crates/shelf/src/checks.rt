@@ -1,7 +1,8 @@
 // The checks of the calls that take a tray, each in its order. A call that passes them is never refused by its tray.
 ghost use Rattle.std.specs.Prelude.{◌≡◌, ◌+◌, ◌<◌, ◌≤◌, true, ◌||◌, if◌then◌else◌, Ok, Err};
 ghost use Rattle.code.specs.Code.{rows};
-ghost use Rattle.shelf.specs.Missing.{is_out, keeps};
+ghost use Rattle.shelf.specs.Missing.{is_out};
+ghost use Rattle.shelf.specs.Rosters.{roster_of};
 ghost use Rattle.shelf.specs.Checks.{is_shaped, is_roomy, silent_from, hearing, laying, reaching, rebuilding, sweeping};
 
 use crate::roster::Roster;
@@ -35,9 +36,9 @@ pub(crate) fn pass(holds: bool, fault: Fault) -> Result<(), Fault>
 impl Roster {
     // The shape of the shelf's tray.
     fn shape(&self) -> Shape
-        ensures columns { result.columns ≡ self.now.width + 2 }
-        ensures rows { result.rows ≡ rows self.now.width }
-        ensures size { result.size ≡ self.now.size }
+        ensures columns { result.columns ≡ (roster_of self.now).width + 2 }
+        ensures rows { result.rows ≡ rows (roster_of self.now).width }
+        ensures size { result.size ≡ (roster_of self.now).size }
     {
         Shape {
             columns: self.columns(),
@@ -48,22 +49,22 @@ impl Roster {
 
     // Whether a tray has the shelf's shape.
     fn fits<T: Tray>(&self, tray: &T) -> bool
-        ensures { result ≡ is_shaped self.now (T.Tray.meaning tray.now) }
+        ensures { result ≡ is_shaped (roster_of self.now) (T.Tray.meaning tray.now) }
     {
         tray.shape() == self.shape()
     }
 
     // Whether a work space has room for a block of each row and one of each line.
     fn is_roomy(&self, work: usize) -> bool
-        ensures { result ≡ is_roomy self.now work }
+        ensures { result ≡ is_roomy (roster_of self.now) work }
     {
         2 * self.rows() as usize * self.size() as usize <= work
     }
 
     // Whether every column answers, but for those in `out`.
     fn check_heard<T: Tray>(&self, out: Missing, tray: &T) -> Result<(), Fault>
-        requires { is_shaped self.now (T.Tray.meaning tray.now) ≡ true }
-        ensures { result ≡ hearing out self.now (T.Tray.meaning tray.now) }
+        requires { is_shaped (roster_of self.now) (T.Tray.meaning tray.now) ≡ true }
+        ensures { result ≡ hearing out (roster_of self.now) (T.Tray.meaning tray.now) }
     {
         match lowest_silent(out, tray, self.columns()) {
             Some(column) => Err(Fault::silent(column)),
@@ -73,7 +74,7 @@ impl Roster {
 
     // The checks of a layout.
     pub(crate) fn check_layout<T: Tray>(&self, tray: &T) -> Result<(), Fault>
-        ensures { result ≡ laying self.now (T.Tray.meaning tray.now) }
+        ensures { result ≡ laying (roster_of self.now) (T.Tray.meaning tray.now) }
     {
         let fault = |refusal| Fault::shelf(refusal, None, None);
         pass(self.fits(tray), fault(Refusal::ShapeDiffers))?;
@@ -89,8 +90,7 @@ impl Roster {
         block: usize,
         work: usize,
     ) -> Result<(), Fault>
-        ensures value { result ≡ reaching self.now (T.Tray.meaning tray.now) column row block work }
-        ensures kept { keeps self.now.width self.now.size self.now.missing ≡ true }
+        ensures { result ≡ reaching (roster_of self.now) (T.Tray.meaning tray.now) column row block work }
     {
         let k = self.width();
         let fault = |refusal| Fault::shelf(refusal, Some(column), Some(row));
@@ -109,7 +109,7 @@ impl Roster {
         column: u32,
         work: usize,
     ) -> Result<(), Fault>
-        ensures { result ≡ rebuilding self.now (T.Tray.meaning tray.now) column work }
+        ensures { result ≡ rebuilding (roster_of self.now) (T.Tray.meaning tray.now) column work }
     {
         let fault = |refusal| Fault::shelf(refusal, Some(column), None);
         pass(self.fits(tray), fault(Refusal::ShapeDiffers))?;
@@ -121,7 +121,7 @@ impl Roster {
 
     // The checks of a sweep.
     pub(crate) fn check_sweep<T: Tray>(&self, tray: &T, work: usize) -> Result<(), Fault>
-        ensures { result ≡ sweeping self.now (T.Tray.meaning tray.now) work }
+        ensures { result ≡ sweeping (roster_of self.now) (T.Tray.meaning tray.now) work }
     {
         let fault = |refusal| Fault::shelf(refusal, None, None);
         pass(self.fits(tray), fault(Refusal::ShapeDiffers))?;

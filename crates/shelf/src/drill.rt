@@ -5,7 +5,7 @@ ghost use Rattle.std.specs.Prelude.{◌≡◌, true, length};
 ghost use Rattle.tray.specs.Meaning.{if_ok};
 ghost use Rattle.law.specs.Promises.{Spares, told_inside};
 ghost use Rattle.shelf.specs.Missing.{keeps};
-ghost use Rattle.shelf.specs.Rosters.{taken_out};
+ghost use Rattle.shelf.specs.Rosters.{roster_of, taken_out};
 ghost use Rattle.shelf.specs.Checks.{pulling, reaching};
 ghost use Rattle.shelf.specs.Promises.{PullsOn, GetsOn, CarriesInsideOn};
 ghost use Rattle.shelf.specs.Drills.{ended, DrillCarries};
@@ -23,7 +23,7 @@ pub struct Drill<'a> {
 
 impl Drop for Drill<'_> {
     fn drop(self)
-        ensures { self.exit.0.now ≡ ended self.entry.taken self.entry.column self.entry.roster.now }
+        ensures { roster_of self.exit.0.now ≡ ended self.entry.taken self.entry.column (roster_of self.entry.roster.now) }
     {
         let column = self.column;
         if self.taken.is_ok() {
@@ -40,13 +40,13 @@ impl Drop for Drill<'_> {
 impl Roster {
     // Begins a drill of a column, data or parity. Where the column cannot be taken out the drill is idle.
     pub fn drill(&mut self, column: u32) -> Drill<'_>
-        ensures taken { result.taken ≡ pulling self.old column }
+        ensures taken { result.taken ≡ pulling (roster_of self.old) column }
         ensures column { result.column ≡ column }
-        ensures roster { result.roster.now ≡ if_ok result.taken (taken_out self.old column) self.old }
-        ensures undone { ended result.taken result.column result.roster.now ≡ self.old }
+        ensures roster { roster_of result.roster.now ≡ if_ok result.taken (taken_out (roster_of self.old) column) (roster_of self.old) }
+        ensures undone { ended result.taken result.column (roster_of result.roster.now) ≡ roster_of self.old }
         ensures lender { result.roster.ghost_name ≡ self.entry.ghost_name }
-        ensures done { PullsOn self.old column result.taken result.roster.now }
-        ensures carries { DrillCarries self.old column result.taken result.roster.now }
+        ensures done { PullsOn (roster_of self.old) column result.taken (roster_of result.roster.now) }
+        ensures carries { DrillCarries (roster_of self.old) column result.taken (roster_of result.roster.now) }
     {
         let taken = self.pull(column);
         Drill {
@@ -58,13 +58,11 @@ impl Roster {
 }
 
 impl Drill<'_> {
-    // Whether the drill took its column out, or why it is idle. What every roster keeps is told too: a caller that holds the
-    // drill alone has no other call to learn it of the drill's roster.
+    // Whether the drill took its column out, or why it is idle.
     pub fn taken(&self) -> Result<(), Fault>
         ensures value { result ≡ self.now.taken }
-        ensures kept { keeps self.now.roster.now.width self.now.roster.now.size self.now.roster.now.missing ≡ true }
+        ensures kept { keeps (roster_of self.now.roster.now).width (roster_of self.now.roster.now).size (roster_of self.now.roster.now).missing ≡ true }
     {
-        let _size = self.roster.size();
         self.taken
     }
 
@@ -77,10 +75,10 @@ impl Drill<'_> {
         block: &mut [u8],
         work: &mut [u8],
     ) -> Result<(), Fault>
-        ensures value { result ≡ reaching self.now.roster.now (T.Tray.meaning tray.old) column row (length block.old) (length work.old) }
-        ensures done { GetsOn self.now.roster.now (T.Tray.meaning tray.old) column row block.old result block.new (T.Tray.meaning tray.new) }
+        ensures value { result ≡ reaching (roster_of self.now.roster.now) (T.Tray.meaning tray.old) column row (length block.old) (length work.old) }
+        ensures done { GetsOn (roster_of self.now.roster.now) (T.Tray.meaning tray.old) column row block.old result block.new (T.Tray.meaning tray.new) }
         ensures work { Spares work.old result work.new }
-        ensures carries { CarriesInsideOn self.now.roster.now (T.Tray.meaning tray.old) (T.Tray.sized tray.old) (told_inside result column row) (T.Tray.meaning tray.new) (T.Tray.sized tray.new) }
+        ensures carries { CarriesInsideOn (roster_of self.now.roster.now) (T.Tray.meaning tray.old) (T.Tray.sized tray.old) (told_inside result column row) (T.Tray.meaning tray.new) (T.Tray.sized tray.new) }
     {
         self.roster.get(tray, column, row, block, work)
     }

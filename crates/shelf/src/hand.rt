@@ -5,7 +5,7 @@ ghost use Rattle.code.specs.Neighbours.{published};
 ghost use Rattle.law.specs.Holding.{Calm};
 ghost use Rattle.law.specs.Hand.{AtHand};
 ghost use Rattle.shelf.specs.Missing.{is_full};
-ghost use Rattle.shelf.specs.Rosters.{out_of};
+ghost use Rattle.shelf.specs.Rosters.{roster_of, out_of};
 ghost use Rattle.shelf.specs.Hands.{Reach};
 
 use crate::bench::Bench;
@@ -26,10 +26,10 @@ impl Roster {
         work: &mut [u8],
         block: &mut [u8],
     )
-        requires reach { Reach self.now.width (length block.old) self.now.missing (T.Tray.meaning tray.old) column row.0 work.old }
-        requires missing { out_of self.now column ≡ true }
-        requires full { is_full self.now.missing ≡ true }
-        ensures at_hand { AtHand self.now.width (published self.now.width) (length block.old) (out_of self.now) (T.Tray.meaning tray.old) row.0 column block.new }
+        requires reach { Reach (roster_of self.now).width (length block.old) (roster_of self.now).missing (T.Tray.meaning tray.old) column row.0 work.old }
+        requires missing { out_of (roster_of self.now) column ≡ true }
+        requires full { is_full (roster_of self.now).missing ≡ true }
+        ensures at_hand { AtHand (roster_of self.now).width (published (roster_of self.now).width) (length block.old) (out_of (roster_of self.now)) (T.Tray.meaning tray.old) row.0 column block.new }
         ensures calm { Calm (T.Tray.meaning tray.old) (T.Tray.meaning tray.new) }
     {
         let k = self.width();
@@ -47,10 +47,10 @@ impl Roster {
         work: &mut [u8],
         block: &mut [u8],
     )
-        requires reach { Reach self.now.width (length block.old) self.now.missing (T.Tray.meaning tray.old) column row.0 work.old }
-        requires missing { out_of self.now column ≡ true }
-        requires sole { is_full self.now.missing ≡ false }
-        ensures at_hand { AtHand self.now.width (published self.now.width) (length block.old) (out_of self.now) (T.Tray.meaning tray.old) row.0 column block.new }
+        requires reach { Reach (roster_of self.now).width (length block.old) (roster_of self.now).missing (T.Tray.meaning tray.old) column row.0 work.old }
+        requires missing { out_of (roster_of self.now) column ≡ true }
+        requires sole { is_full (roster_of self.now).missing ≡ false }
+        ensures at_hand { AtHand (roster_of self.now).width (published (roster_of self.now).width) (length block.old) (out_of (roster_of self.now)) (T.Tray.meaning tray.old) row.0 column block.new }
         ensures calm { Calm (T.Tray.meaning tray.old) (T.Tray.meaning tray.new) }
     {
         let size = block.len();
@@ -67,10 +67,10 @@ impl Roster {
         work: &mut [u8],
         block: &mut [u8],
     )
-        requires { Reach self.now.width (length block.old) self.now.missing (T.Tray.meaning tray.old) column row.0 work.old }
-        ensures at_hand { AtHand self.now.width (published self.now.width) (length block.old) (out_of self.now) (T.Tray.meaning tray.old) row.0 column block.new }
+        requires { Reach (roster_of self.now).width (length block.old) (roster_of self.now).missing (T.Tray.meaning tray.old) column row.0 work.old }
+        ensures at_hand { AtHand (roster_of self.now).width (published (roster_of self.now).width) (length block.old) (out_of (roster_of self.now)) (T.Tray.meaning tray.old) row.0 column block.new }
         ensures calm { Calm (T.Tray.meaning tray.old) (T.Tray.meaning tray.new) }
-        ensures one_read { out_of self.now column ≡ false → (T.Tray.meaning tray.new).tally ≡ (tallied (T.Tray.meaning tray.old) column).tally }
+        ensures one_read { out_of (roster_of self.now) column ≡ false → (T.Tray.meaning tray.new).tally ≡ (tallied (T.Tray.meaning tray.old) column).tally }
     {
         let out = self.missing();
         if !out.is_out(column) {

@@ -4,7 +4,7 @@ ghost use Rattle.law.specs.Promises.{Lays};
 ghost use Rattle.law.specs.Law.{LawOfShelves};
 ghost use Rattle.shelf.specs.Blocks.{Ready};
 ghost use Rattle.shelf.specs.Wiped.{wiped_column, wiped};
-ghost use Rattle.shelf.specs.Layouts.{laying_out, Begins};
+ghost use Rattle.shelf.specs.Layouts.{made_of, laying_out, Begins};
 
 use crate::blocks::place;
 use crate::roster::{MOST_SIZE, Roster};
@@ -45,7 +45,7 @@ impl Roster {
     // Lays a shelf of `width` data columns and blocks of `size` bytes out on a tray: writes zeros everywhere, and answers
     // a roster with no column out. From here on the law of shelves stands of every run of calls.
     pub fn layout<T: Tray>(tray: &mut T, width: u32, size: u32) -> Result<Roster, Fault>
-        ensures value { result ≡ laying_out width size (T.Tray.meaning tray.old) }
+        ensures value { made_of result ≡ laying_out width size (T.Tray.meaning tray.old) }
         ensures done { Lays width size (T.Tray.meaning tray.old) result (T.Tray.meaning tray.new) }
         ensures begins { Begins result (T.Tray.meaning tray.new) (T.Tray.sized tray.new) }
         ensures spared { OnErr result (tray.new ≡ tray.old) }

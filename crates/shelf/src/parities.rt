@@ -2,7 +2,7 @@
 ghost use Rattle.std.specs.Prelude.{◌≡◌, ◌+◌, ◌<◌, length};
 ghost use Rattle.code.specs.Code.{rows};
 ghost use Rattle.code.specs.Neighbours.{published};
-ghost use Rattle.shelf.specs.Rosters.{out_of};
+ghost use Rattle.shelf.specs.Rosters.{roster_of, out_of};
 ghost use Rattle.shelf.specs.Blocks.{Ready};
 ghost use Rattle.shelf.specs.Reading.{Answers, Heard};
 ghost use Rattle.shelf.specs.Parities.{AddedAt, only_at, line_by, line_places, places_in_service, parities_of};
@@ -69,10 +69,10 @@ fn add_to_lines<T: Tray>(
 impl Roster {
     // Adds a change of a place in this row to the row's sum, if that is in service.
     fn add_to_sum<T: Tray>(&self, tray: &mut T, row: Row, block: &[u8], scratch: &mut [u8])
-        requires heard { Heard self.now.width (length block.now) (out_of self.now) (T.Tray.meaning tray.old) }
-        requires row { row.0 < rows self.now.width }
+        requires heard { Heard (roster_of self.now).width (length block.now) (out_of (roster_of self.now)) (T.Tray.meaning tray.old) }
+        requires row { row.0 < rows (roster_of self.now).width }
         requires scratch { length scratch.old ≡ length block.now }
-        ensures { AddedAt (length block.now) (T.Tray.meaning tray.old) block.now (places_in_service (out_of self.now) (only_at self.now.width row.0)) (T.Tray.meaning tray.new) }
+        ensures { AddedAt (length block.now) (T.Tray.meaning tray.old) block.now (places_in_service (out_of (roster_of self.now)) (only_at (roster_of self.now).width row.0)) (T.Tray.meaning tray.new) }
     {
         let k = self.width();
         if !self.missing().is_out(k.number) {
@@ -89,10 +89,10 @@ impl Roster {
         block: &[u8],
         scratch: &mut [u8],
     )
-        requires heard { Heard self.now.width (length block.now) (out_of self.now) (T.Tray.meaning tray.old) }
-        requires row { row.0 < rows self.now.width }
+        requires heard { Heard (roster_of self.now).width (length block.now) (out_of (roster_of self.now)) (T.Tray.meaning tray.old) }
+        requires row { row.0 < rows (roster_of self.now).width }
         requires scratch { length scratch.old ≡ length block.now }
-        ensures { AddedAt (length block.now) (T.Tray.meaning tray.old) block.now (parities_of self.now.width (published self.now.width) (out_of self.now) row.0 column) (T.Tray.meaning tray.new) }
+        ensures { AddedAt (length block.now) (T.Tray.meaning tray.old) block.now (parities_of (roster_of self.now).width (published (roster_of self.now).width) (out_of (roster_of self.now)) row.0 column) (T.Tray.meaning tray.new) }
     {
         let k = self.width();
         self.add_to_sum(tray, row, block, scratch);

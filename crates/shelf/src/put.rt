@@ -5,7 +5,7 @@ ghost use Rattle.code.specs.Neighbours.{published};
 ghost use Rattle.law.specs.Calls.{Put};
 ghost use Rattle.law.specs.Runs.{put as sent};
 ghost use Rattle.law.specs.Promises.{Spares, told};
-ghost use Rattle.shelf.specs.Rosters.{out_of};
+ghost use Rattle.shelf.specs.Rosters.{roster_of, out_of};
 ghost use Rattle.shelf.specs.Blocks.{Ready};
 ghost use Rattle.shelf.specs.Checks.{reaching};
 ghost use Rattle.shelf.specs.Promises.{PutsOn, CarriesOn};
@@ -22,8 +22,8 @@ use tray::trays::Tray;
 impl Roster {
     // Writes a block to a column, unless the column is out.
     fn write_served<T: Tray>(&self, tray: &mut T, column: u32, row: Row, block: &[u8])
-        requires { out_of self.now column ≡ false → Ready (T.Tray.meaning tray.old) column row.0 (length block.now) }
-        ensures { T.Tray.meaning tray.new ≡ (if out_of self.now column then T.Tray.meaning tray.old else stored (T.Tray.meaning tray.old) column row.0 block.now) }
+        requires { out_of (roster_of self.now) column ≡ false → Ready (T.Tray.meaning tray.old) column row.0 (length block.now) }
+        ensures { T.Tray.meaning tray.new ≡ (if out_of (roster_of self.now) column then T.Tray.meaning tray.old else stored (T.Tray.meaning tray.old) column row.0 block.now) }
     {
         if !self.missing().is_out(column) {
             place(tray, column, row.0, block);
@@ -40,9 +40,9 @@ impl Roster {
         change: &mut [u8],
         work: &mut [u8],
     )
-        requires reach { Reach self.now.width (length block.now) self.now.missing (T.Tray.meaning tray.old) column row.0 work.old }
+        requires reach { Reach (roster_of self.now).width (length block.now) (roster_of self.now).missing (T.Tray.meaning tray.old) column row.0 work.old }
         requires change { length change.old ≡ length block.now }
-        ensures { Put self.now.width (published self.now.width) (length block.now) (out_of self.now) (T.Tray.meaning tray.old) column row.0 block.now (T.Tray.meaning tray.new) }
+        ensures { Put (roster_of self.now).width (published (roster_of self.now).width) (length block.now) (out_of (roster_of self.now)) (T.Tray.meaning tray.old) column row.0 block.now (T.Tray.meaning tray.new) }
     {
         let size = block.len();
         self.hand(tray, column, row, work, change);
@@ -61,10 +61,10 @@ impl Roster {
         block: &[u8],
         work: &mut [u8],
     ) -> Result<(), Fault>
-        ensures value { result ≡ reaching self.now (T.Tray.meaning tray.old) column row (length block.now) (length work.old) }
-        ensures done { PutsOn self.now (T.Tray.meaning tray.old) column row block.now result (T.Tray.meaning tray.new) }
+        ensures value { result ≡ reaching (roster_of self.now) (T.Tray.meaning tray.old) column row (length block.now) (length work.old) }
+        ensures done { PutsOn (roster_of self.now) (T.Tray.meaning tray.old) column row block.now result (T.Tray.meaning tray.new) }
         ensures work { Spares work.old result work.new }
-        ensures carries { CarriesOn self.now (T.Tray.meaning tray.old) (T.Tray.sized tray.old) (told result (sent column row block.now)) self.now (T.Tray.meaning tray.new) (T.Tray.sized tray.new) }
+        ensures carries { CarriesOn (roster_of self.now) (T.Tray.meaning tray.old) (T.Tray.sized tray.old) (told result (sent column row block.now)) (roster_of self.now) (T.Tray.meaning tray.new) (T.Tray.sized tray.new) }
     {
         self.check_place(tray, column, row, block.len(), work.len())?;
         let mut scratch = Scratch::new();

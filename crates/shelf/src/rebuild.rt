@@ -7,7 +7,7 @@ ghost use Rattle.law.specs.Service.{removed};
 ghost use Rattle.law.specs.Calls.{Rebuilt};
 ghost use Rattle.law.specs.Promises.{Spares};
 ghost use Rattle.shelf.specs.Missing.{is_out, are_columns};
-ghost use Rattle.shelf.specs.Rosters.{back_in};
+ghost use Rattle.shelf.specs.Rosters.{roster_of, back_in};
 ghost use Rattle.shelf.specs.Checks.{rebuilding};
 ghost use Rattle.shelf.specs.Layouts.{given};
 ghost use Rattle.shelf.specs.Promises.{RebuildsOn};
@@ -165,11 +165,11 @@ impl Roster {
         column: u32,
         work: &mut [u8],
     ) -> Result<u32, Fault>
-        ensures value { result ≡ given (rebuilding self.old (T.Tray.meaning tray.old) column (length work.old)) (reads_of self.old.width self.old.missing) }
-        ensures after { self.new ≡ if_ok result (back_in self.old column) self.old }
-        ensures done { RebuildsOn self.old (T.Tray.meaning tray.old) column result self.new (T.Tray.meaning tray.new) }
+        ensures value { result ≡ given (rebuilding (roster_of self.old) (T.Tray.meaning tray.old) column (length work.old)) (reads_of (roster_of self.old).width (roster_of self.old).missing) }
+        ensures after { roster_of self.new ≡ if_ok result (back_in (roster_of self.old) column) (roster_of self.old) }
+        ensures done { RebuildsOn (roster_of self.old) (T.Tray.meaning tray.old) column result (roster_of self.new) (T.Tray.meaning tray.new) }
         ensures work { Spares work.old result work.new }
-        ensures carries { RebuildCarries self.old (T.Tray.meaning tray.old) (T.Tray.sized tray.old) column result self.new (T.Tray.meaning tray.new) (T.Tray.sized tray.new) }
+        ensures carries { RebuildCarries (roster_of self.old) (T.Tray.meaning tray.old) (T.Tray.sized tray.old) column result (roster_of self.new) (T.Tray.meaning tray.new) (T.Tray.sized tray.new) }
     {
         self.check_rebuild(tray, column, work.len())?;
         let mut scratch = Scratch::new();

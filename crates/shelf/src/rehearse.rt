@@ -1,6 +1,7 @@
 // One get inside a drill, as a call of its own.
 ghost use Rattle.std.specs.Prelude.{◌≡◌, length};
 ghost use Rattle.law.specs.Promises.{Spares};
+ghost use Rattle.shelf.specs.Rosters.{roster_of};
 ghost use Rattle.shelf.specs.Promises.{CarriesOn};
 ghost use Rattle.shelf.specs.Rehearsals.{rehearsing, RehearsesOn, rehearsed};
 
@@ -20,11 +21,11 @@ impl Roster {
         block: &mut [u8],
         work: &mut [u8],
     ) -> Result<(), Fault>
-        ensures value { result ≡ rehearsing self.old (T.Tray.meaning tray.old) drilled column row (length block.old) (length work.old) }
-        ensures same { self.new ≡ self.old }
-        ensures done { RehearsesOn self.old (T.Tray.meaning tray.old) drilled column row block.old result block.new (T.Tray.meaning tray.new) }
+        ensures value { result ≡ rehearsing (roster_of self.old) (T.Tray.meaning tray.old) drilled column row (length block.old) (length work.old) }
+        ensures same { roster_of self.new ≡ roster_of self.old }
+        ensures done { RehearsesOn (roster_of self.old) (T.Tray.meaning tray.old) drilled column row block.old result block.new (T.Tray.meaning tray.new) }
         ensures work { Spares work.old result work.new }
-        ensures carries { CarriesOn self.old (T.Tray.meaning tray.old) (T.Tray.sized tray.old) (rehearsed self.old drilled column row result) self.new (T.Tray.meaning tray.new) (T.Tray.sized tray.new) }
+        ensures carries { CarriesOn (roster_of self.old) (T.Tray.meaning tray.old) (T.Tray.sized tray.old) (rehearsed (roster_of self.old) drilled column row result) (roster_of self.new) (T.Tray.meaning tray.new) (T.Tray.sized tray.new) }
     {
         let drill = self.drill(drilled);
         drill.taken()?;

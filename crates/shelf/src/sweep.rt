@@ -5,6 +5,7 @@ ghost use Rattle.law.specs.Holding.{Calm};
 ghost use Rattle.law.specs.Calls.{Finding};
 ghost use Rattle.law.specs.Promises.{Spares};
 ghost use Rattle.shelf.specs.Missing.{is_out};
+ghost use Rattle.shelf.specs.Rosters.{roster_of};
 ghost use Rattle.shelf.specs.Checks.{sweeping, verdict_of};
 ghost use Rattle.shelf.specs.Promises.{SweepsOn};
 ghost use Rattle.shelf.specs.Reading.{Heard};
@@ -97,10 +98,10 @@ impl Roster {
     // Compares both parities with the data, where no column is out: answers `None` where they fit, and else the first place
     // that does not, as its parity column and its row or line: column k by rows, then column k + 1 by lines.
     pub fn sweep<T: Tray>(&self, tray: &mut T, work: &mut [u8]) -> Result<Option<(u32, u32)>, Fault>
-        ensures value { verdict_of result ≡ sweeping self.now (T.Tray.meaning tray.old) (length work.old) }
-        ensures done { SweepsOn self.now (T.Tray.meaning tray.old) result (T.Tray.meaning tray.new) }
+        ensures value { verdict_of result ≡ sweeping (roster_of self.now) (T.Tray.meaning tray.old) (length work.old) }
+        ensures done { SweepsOn (roster_of self.now) (T.Tray.meaning tray.old) result (T.Tray.meaning tray.new) }
         ensures work { Spares work.old result work.new }
-        ensures carries { SweepCarries self.now (T.Tray.meaning tray.old) (T.Tray.sized tray.old) result (T.Tray.meaning tray.new) (T.Tray.sized tray.new) }
+        ensures carries { SweepCarries (roster_of self.now) (T.Tray.meaning tray.old) (T.Tray.sized tray.old) result (T.Tray.meaning tray.new) (T.Tray.sized tray.new) }
     {
         self.check_sweep(tray, work.len())?;
         let mut scratch = Scratch::new();

@@ -1,5 +1,6 @@
 use Rattle.std.proofs.Common.{◌≡◌, length, subst, rules}
 use Rattle.code.specs.Code.{rows}
+use Rattle.shelf.specs.Rosters.{roster_of}
 use Rattle.lab.specs.Obeying.{Filled}
 use Rattle.lab.proofs.Filling.{fill_first, fill_more, rows_of_tray}
 use Rattle.lab.proofs.fill.fill.Goals as goal
@@ -12,7 +13,7 @@ loop-row-preserved g c = fill_more c.loop-row.invariant c.in_ok-put-2.ensures.do
 
 pub returns-clause-done : goal.returns-clause-done
 returns-clause-done g c =
-    let r = c.args.roster.now in
+    let r = roster_of c.args.roster.now in
     let tall = rows_of_tray r (length c.args.work.now) c.in_ok-put.ensures.value c.in_ok-put.ensures.done in
     let all : c.loop-row.row ≡ rows r.width = search (rules, tall) in
     subst (λ n. Filled r c.args.column c.args.block.now (g.T.Tray.meaning c.args.tray.now) n (g.T.Tray.meaning c.loop-row.tray)) all c.loop-row.invariant.filled

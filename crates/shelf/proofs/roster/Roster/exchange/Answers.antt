@@ -1,7 +1,7 @@
 use Rattle.std.proofs.Common.{◌≡◌, length, refl, subst, arith}
 use Rattle.code.specs.Neighbours.{published}
 use Rattle.law.specs.Hand.{AtHand}
-use Rattle.shelf.specs.Rosters.{out_of}
+use Rattle.shelf.specs.Rosters.{roster_of, out_of}
 use Rattle.shelf.specs.Parities.{AddedAt, parities_of}
 use Rattle.shelf.proofs.OneBlock.{one_slot}
 use Rattle.shelf.proofs.Exchanging.{exchanged}
@@ -9,7 +9,7 @@ use Rattle.shelf.proofs.roster.Roster.exchange.Goals as goal
 
 pub returns : goal.returns
 returns g c =
-    let r = c.args.self.now in
+    let r = roster_of c.args.self.now in
     let k = r.width in
     let out = out_of r in
     let m = g.T.Tray.meaning c.args.tray.now in

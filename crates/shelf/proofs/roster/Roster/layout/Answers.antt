@@ -3,6 +3,7 @@ use lib.ListN.{length-replicate}
 use Rattle.law.proofs.Shelves.{law_of_shelves}
 use Rattle.shelf.specs.declared.roster.missing.Missing.TheVariants.{Nothing}
 use Rattle.shelf.specs.Blocks.{Ready}
+use Rattle.shelf.specs.Rosters.{roster_of}
 use Rattle.shelf.proofs.Checked.{laid_sound, sound_ready}
 use Rattle.shelf.proofs.Laying.{layout_begins}
 use Rattle.shelf.proofs.roster.Roster.layout.Goals as goal
@@ -10,7 +11,7 @@ use Rattle.shelf.proofs.roster.Roster.layout.Goals as goal
 pub wipe-requires : goal.wipe-requires
 wipe-requires g c column i cl il =
     let m = g.T.Tray.meaning c.args.tray.now in
-    let r = c.in_ok-roster.roster in
+    let r = roster_of c.in_ok-roster.roster in
     let sound = laid_sound r m (sym c.check_layout.ensures ∙ c.in_ok-check_layout.was) in
     let long : length c.zeros.result.now ≡ r.size = ap length c.zeros.ensures ∙ length-replicate c.size.result 0 ∙ c.size.ensures.value in
     subst (Ready m column i) (sym long)
