@@ -8,11 +8,11 @@ use Rattle.std.proofs.lemmas.Bool.{cases_eq, cases_lt, cases_Bool, eq-eqb, ne_eq
 use Rattle.tray.specs.declared.trays.Shape.{Shape}
 use Rattle.tray.specs.declared.flat.Flat.{Flat}
 use Rattle.tray.specs.declared.flat.columns.Column.{Column}
-use Rattle.tray.specs.Meaning.{Meaning, empty, tallied, stored, switched}
+use Rattle.tray.specs.Meaning.{Meaning, tallied, stored, switched}
 use Rattle.tray.specs.Limits.{flat_columns, has_room}
-use Rattle.tray.specs.FlatTrays.{start_of, blocks_in, fitted, flat_meaning, flat_of, fresh, new_flat, written}
+use Rattle.tray.specs.FlatTrays.{start_of, blocks_in, roomy, flat_meaning, flat_of, fresh, new_flat, written}
 use Rattle.tray.specs.FlatColumns.{absent, counted, turned}
-use Rattle.tray.specs.FlatOwes.{place_within, room_parts, fitted_room}
+use Rattle.tray.specs.FlatOwes.{place_within, room_parts}
 use Rattle.tray.proofs.Places.{places_apart, put_there, put_elsewhere}
 
 -- a memory with room, and a block put into it at column c and row r
@@ -35,29 +35,35 @@ module _ (columns rows size : ℕ) (cells : List ℕ) (room : columns * rows * s
       (λ n. simp (ne_eqb j c n) (away (λ p _. n p)))
       (cases_eq j c)
 
--- The same of a whole tray, which may have another memory of the same length.
+-- A tray with a column has room.
+pub fitted : (t : Flat) (c : ℕ) → c < (flat_of t).columns → has_room t.shape.columns t.shape.rows t.shape.size (length t.cells.now) ≡ true
+fitted t c h = ⊎_elim (λ e. e) (λ e. absurd (let k : c < 0 = rw e at h in omega arith)) (cases_Bool (has_room t.shape.columns t.shape.rows t.shape.size (length t.cells.now)))
+
+-- A block written in a whole tray, which may have another memory of the same length.
 abbrev pub with_cells : Flat → List ℕ → Meaning
-with_cells t cells =
-    let s = fitted t.shape (length cells) in
-    flat_meaning s.columns s.rows s.size t.table cells
+with_cells t cells = flat_meaning t.shape.columns t.shape.rows t.shape.size t.table cells
 
 pub block_written : (t : Flat) (c r : ℕ) → c < (flat_of t).columns → r < (flat_of t).rows → (bytes : List ℕ) → length bytes ≡ (flat_of t).size → with_cells t (written (flat_of t) c r bytes t.cells.now) ≡ stored (flat_of t) c r bytes
-unfolding flat_of
 block_written t c r hc hr bytes e =
     let n = length t.cells.now in
-    let s = fitted t.shape n in
-    let room = room_parts s.columns s.rows s.size n (fitted_room t.shape n) in
-    let with_blocks : (ℕ → ℕ → List ℕ) → Meaning = λ b. record { columns = s.columns; rows = s.rows; size = s.size; answers = (flat_of t).answers; block = b; tally = (flat_of t).tally } in
+    let s = t.shape in
+    let h = fitted t c hc in
+    let kc : c < s.columns = rw h at hc in
+    let kr : r < s.rows = rw h at hr in
+    let ke : length bytes ≡ s.size = rw h at e in
+    let room = room_parts s.columns s.rows s.size n h in
+    let m = roomy s.columns s.rows s.size t.table t.cells.now in
+    let with_blocks : (ℕ → ℕ → List ℕ) → Meaning = λ b. record { columns = s.columns; rows = s.rows; size = s.size; answers = m.answers; block = b; tally = m.tally } in
     let at = start_of s.rows s.size c r in
-    let long = length-paste t.cells.now at bytes s.size (place_within s.columns s.rows s.size c r n hc hr room.3) (omega arith) in
-    rw long (ap with_blocks (fun_ext (λ j. fun_ext (λ i. block_stored s.columns s.rows s.size t.cells.now room.3 c r bytes hc hr e j i))))
+    let long = length-paste t.cells.now at bytes s.size (place_within s.columns s.rows s.size c r n kc kr room.3) (omega arith) in
+    rw (h, long, h) (ap with_blocks (fun_ext (λ j. fun_ext (λ i. block_stored s.columns s.rows s.size t.cells.now room.3 c r bytes kc kr ke j i))))
 
 -- fresh records for all columns
 abbrev new_table : List Column
 new_table = replicate flat_columns (record { answering = true; reads = 0 })
 
 -- A tray with them is a new one, in a shape that has room,
-flat_fresh : (columns rows size : ℕ) (cells : List ℕ) → columns ≤ flat_columns → flat_meaning columns rows size new_table cells ≡ fresh columns rows size cells
+flat_fresh : (columns rows size : ℕ) (cells : List ℕ) → columns ≤ flat_columns → roomy columns rows size new_table cells ≡ fresh columns rows size cells
 flat_fresh columns rows size cells h =
     ap₂ (λ a t. record { columns = columns; rows = rows; size = size; answers = a; block = blocks_in columns rows size cells; tally = t })
     (fun_ext (λ j. ⊎_elim (λ (k : j < columns). simp (lt-ltb j columns k, its j k)) (λ (k : columns ≤ j). simp (le-ltb j columns k)) (cases_lt j columns)))
@@ -66,26 +72,18 @@ flat_fresh columns rows size cells h =
     its : (j : ℕ) → j < columns → get_or new_table j absent ≡ record { answering = true; reads = 0 }
     its j k = get_or-replicate flat_columns j (record { answering = true; reads = 0 }) absent (omega arith)
 
-none_below_zero : (j : ℕ) → ltb j 0 ≡ false
-none_below_zero j = le-ltb j 0 (omega arith)
-
-flat_empty : (cells : List ℕ) → flat_meaning 0 0 0 new_table cells ≡ empty
-flat_empty cells =
-    let no_blocks : blocks_in 0 0 0 cells ≡ (λ _ _. []) = fun_ext (λ j. fun_ext (λ i. simp none_below_zero)) in
-    simp (none_below_zero, no_blocks)
-
 -- and of the shape that was asked for where that has room.
-pub flat_new : (s : Shape) (cells : List ℕ) → let made = fitted s (length cells) in flat_meaning made.columns made.rows made.size new_table cells ≡ new_flat s.columns s.rows s.size cells
+pub flat_new : (s : Shape) (cells : List ℕ) → flat_meaning s.columns s.rows s.size new_table cells ≡ new_flat s.columns s.rows s.size cells
 flat_new s cells =
     ⊎_elim
     (λ (h : has_room s.columns s.rows s.size (length cells) ≡ true). rw h (flat_fresh s.columns s.rows s.size cells (room_parts s.columns s.rows s.size (length cells) h).0))
-    (λ (h : has_room s.columns s.rows s.size (length cells) ≡ false). rw h (flat_empty cells))
+    (λ (h : has_room s.columns s.rows s.size (length cells) ≡ false). rw h refl)
     (cases_Bool (has_room s.columns s.rows s.size (length cells)))
 
 -- One more read of a column, and its flag set, in the record of the column: all else is as it was.
 module _ (columns rows size : ℕ) (table : List Column) (cells : List ℕ) (c : ℕ) (hc : c < columns) (ht : c < length table) where
-  pub flat_tallied : flat_meaning columns rows size (set table c (counted (get_or table c absent))) cells ≡ tallied (flat_meaning columns rows size table cells) c
+  pub flat_tallied : roomy columns rows size (set table c (counted (get_or table c absent))) cells ≡ tallied (roomy columns rows size table cells) c
   flat_tallied = search rules
 
-  pub flat_switched : (on : Bool) → flat_meaning columns rows size (set table c (turned (get_or table c absent) on)) cells ≡ switched (flat_meaning columns rows size table cells) c on
+  pub flat_switched : (on : Bool) → roomy columns rows size (set table c (turned (get_or table c absent) on)) cells ≡ switched (roomy columns rows size table cells) c on
   flat_switched on = search rules

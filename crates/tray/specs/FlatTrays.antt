@@ -2,7 +2,6 @@
 -- a column, beside a table with one record for each column.
 use Rattle.std.specs.Prelude.{◌≡◌, ℕ, ◌+◌, ◌*◌, ◌%◌, ◌^◌, cond, ◌&&◌, List, [], length, take, drop, nat_lt, slice_index_or}
 use Rattle.std.proofs.Math.Seq.{paste}
-use Rattle.tray.specs.declared.trays.Shape.{Shape}
 use Rattle.tray.specs.declared.flat.Flat.{Flat}
 use Rattle.tray.specs.declared.flat.columns.Column.{Column}
 use Rattle.tray.specs.FlatColumns.{absent}
@@ -17,13 +16,9 @@ start_of rows size c r = (c * rows + r) * size
 abbrev pub blocks_in : ℕ → ℕ → ℕ → List ℕ → ℕ → ℕ → List ℕ
 blocks_in columns rows size cells c r = cond (nat_lt c columns && nat_lt r rows) (take size (drop (start_of rows size c r) cells)) []
 
--- The shape that counts: the one asked for where a memory of n bytes has room for it, and else the empty one.
-abbrev pub fitted : Shape → ℕ → Shape
-fitted s n = cond (has_room s.columns s.rows s.size n) s (record { columns = 0; rows = 0; size = 0 })
-
--- A flat tray by the shape that counts, its table and memory.
-abbrev pub flat_meaning : ℕ → ℕ → ℕ → List Column → List ℕ → Meaning
-flat_meaning columns rows size table cells = record {
+-- A flat tray that has room, by its shape, table and memory.
+abbrev pub roomy : ℕ → ℕ → ℕ → List Column → List ℕ → Meaning
+roomy columns rows size table cells = record {
   columns = columns;
   rows = rows;
   size = size;
@@ -32,10 +27,13 @@ flat_meaning columns rows size table cells = record {
   tally = λ c. cond (nat_lt c columns) ((slice_index_or table c absent).reads % 2 ^ 32) 0;
 }
 
-unfoldable pub flat_of : Flat → Meaning
-flat_of t =
-    let s = fitted t.shape (length t.cells.now) in
-    flat_meaning s.columns s.rows s.size t.table t.cells.now
+-- A flat tray; it is empty where there is no room.
+abbrev pub flat_meaning : ℕ → ℕ → ℕ → List Column → List ℕ → Meaning
+flat_meaning columns rows size table cells = cond (has_room columns rows size (length cells)) (roomy columns rows size table cells) empty
+
+-- It opens wherever a proof looks, so that the limits of a flat tray are known with no call.
+abbrev pub flat_of : Flat → Meaning
+flat_of t = flat_meaning t.shape.columns t.shape.rows t.shape.size t.table t.cells.now
 
 -- A new flat tray that has room: all its columns answer, none was read, and the bytes of the memory
 -- are its blocks.

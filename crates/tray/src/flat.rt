@@ -1,6 +1,6 @@
 // The flat tray: blocks in a caller's memory, column after column and row after row within a column.
-ghost use Rattle.std.specs.Prelude.{◌≡◌, ◌+◌, ◌<◌, ◌≤◌, length, OnOk};
-ghost use Rattle.tray.specs.FlatTrays.{fitted};
+ghost use Rattle.std.specs.Prelude.{◌≡◌, ◌+◌, ◌<◌, ◌≤◌, cond, length, OnOk};
+ghost use Rattle.tray.specs.Limits.{has_room};
 ghost use Rattle.tray.specs.Meaning.{Ready, verdict, asked, tallied, stored, switched, if_ok};
 
 use crate::fault::Fault;
@@ -30,7 +30,7 @@ pub struct Flat<'a> {
 impl Shape {
     // This shape where it is within the limits and `len` bytes have room for it, and else the empty one.
     fn fitting(self, len: usize) -> Shape
-        ensures { result ≡ fitted self len }
+        ensures { result ≡ cond (has_room self.columns self.rows self.size len) self Shape.EMPTY }
     {
         let fits = self.columns <= MAX_COLUMNS
             && self.rows <= MAX_ROWS
@@ -40,7 +40,6 @@ impl Shape {
     }
 }
 
-#[tactic(auto, unfolding(crate::specs::FlatTrays::flat_of))]
 impl<'a> Flat<'a> {
     ghost use Rattle.tray.specs.FlatTrays.{start_of, written, flat_of, new_flat, SameCells};
 
@@ -126,7 +125,6 @@ impl<'a> Flat<'a> {
 
 // Each method has the trait's own clauses, and says besides what the memory holds and that it stays
 // the caller's, so that the caller knows its bytes once the tray has ended.
-#[tactic(auto, unfolding(crate::specs::FlatTrays::flat_of))]
 impl<'a> Tray for Flat<'a> {
     ghost use Rattle.tray.specs.FlatTrays.{written, flat_of, SameCells};
     ghost use Rattle.tray.specs.FlatOwes.{flat_sized, flat_wraps};

@@ -1,7 +1,5 @@
-use Rattle.tray.specs.FlatTrays.{flat_of}
 use Rattle.tray.proofs.FlatSteps.{flat_new}
 use Rattle.tray.proofs.flat.Flat.new.Goals as goal
 
 pub returns-clause-value : goal.returns-clause-value
-unfolding flat_of
 returns-clause-value c = flat_new c.args.shape c.args.cells.now

@@ -1,12 +1,10 @@
 use Rattle.std.proofs.Common.{length, refl, ap, ◌∙◌, ap₂, arith}
 use lib.Seq.{paste}
 use Rattle.std.proofs.lemmas.Slice.{put_mid-paste}
-use Rattle.tray.specs.FlatTrays.{flat_of}
 use Rattle.tray.proofs.FlatSteps.{with_cells, block_written}
 use Rattle.tray.proofs.flat.Flat.store.Goals as goal
 
 pub returns-clause-after : goal.returns-clause-after
-unfolding flat_of
 returns-clause-after c =
     let t = c.args.self.now in
     let block = c.args.block.now in
